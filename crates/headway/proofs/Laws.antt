@@ -1,0 +1,169 @@
+-- The laws of two carriers: all that the crates above use of `specs/`, whose definitions they leave shut.
+-- b and B are any rates with 1 ≤ b ≤ B; nothing here knows of rows, places or lanes.
+use mathlib.Core.Path.{_≡_, refl, sym, ap, _∙_, subst}
+use mathlib.Core.Bool.{Bool, true, false, _&&_}
+use Prim.Native.Nat.{ℕ, zero, suc, _+_, _-_, _*_, _/_, _%_, _≤_, _<_, min}
+use native.Mathlib.Nat.{add-zero}
+use native.Mathlib.Omega.{arith}
+use borrow.Author.Tests.{lt-ltb, ltb-true}
+use lib.Dec.{ltb}
+use lib.IntN.{ℤ, pos, negℤ, _+ℤ_}
+use lib.Signed.{_≤ℤ_, _<ℤ_, ≤ℤ-refl}
+use Rattle.headway.specs.Motion.{speedAfter, positionAfter, positionAt}
+use Rattle.headway.specs.Stopping.{braking, slowed, gained, stoppingDistance, safeBehind}
+use Rattle.headway.specs.Wishes.{restsBehind}
+use Rattle.headway.proofs.Integers.{lt-pos, neg-le}
+use Rattle.headway.proofs.Motion.{speed-is, position-is, trajectory-is, driven, slower}
+use Rattle.headway.proofs.Stopping as S
+use Rattle.headway.proofs.Pair.{braking-gains, weighted, stops-apart, middle-apart, ends-apart}
+
+-- ---- one cycle
+
+-- "−c, or −v where v is below c"
+pub braking-is : (c v : ℕ) → braking c v ≡ negℤ (pos (min c v))
+unfolding braking
+braking-is c v = refl
+
+-- a cycle that leads to the speed u gains v + u
+pub speed-after : (v : ℕ) (a : ℤ) (u : ℕ) → pos v +ℤ a ≡ pos u → speedAfter v a ≡ u
+speed-after = speed-is
+
+pub position-after : (p v : ℕ) (a : ℤ) (u : ℕ) → pos v +ℤ a ≡ pos u → positionAfter p v a ≡ p + v + u
+position-after p v a u e = position-is v a u e p
+
+-- ---- the stopping distance
+
+-- "a carrier comes to rest at a cycle's end": v cycles of braking are enough
+pub comes-to-rest : (c v : ℕ) → 1 ≤ c → slowed v c v ≡ 0
+comes-to-rest c v hc = S.rests v c v hc (omega arith)
+
+pub stopping-mono : (c : ℕ) {v w : ℕ} → v ≤ w → stoppingDistance c v ≤ stoppingDistance c w
+stopping-mono c h = S.mono {c = c} {d = c} (omega arith) h
+
+pub stopping-antitone : {c d : ℕ} (v : ℕ) → c ≤ d → stoppingDistance d v ≤ stoppingDistance c v
+stopping-antitone v h = S.mono {v = v} {w = v} h (omega arith)
+
+-- one cycle of braking, and then the rest
+pub stopping-step : (c v : ℕ) → 1 ≤ c
+    → stoppingDistance c v ≡ positionAfter 0 v (braking c v) + stoppingDistance c (speedAfter v (braking c v))
+stopping-step c v hc = rw (S.next-position c 0 v, S.next-speed c v) (S.step c v hc ∙ ap (λ (n : ℕ). n + stoppingDistance c (v - c)) (omega arith))
+
+-- "With q and r the quotient and remainder of v by c it is q²c + 2qr + r,"
+pub stopping-quotient : (c v : ℕ) → 1 ≤ c
+    → stoppingDistance c v ≡ (v / c) * (v / c) * c + 2 * (v / c) * (v % c) + v % c
+stopping-quotient = S.quotient
+
+-- "and c × S = v² + r(c − r)."
+pub stopping-product : (c v : ℕ) → 1 ≤ c → c * stoppingDistance c v ≡ v * v + (v % c) * (c - v % c)
+stopping-product = S.product
+
+-- ---- safe behind
+
+both : (s t : Bool) → s && t ≡ true → (s ≡ true) × (t ≡ true)
+both true true e = (refl, refl)
+both true false e = (refl, e)
+both false t e = (e, absurd (clash e))
+  where
+    clash : false ≡ true → ⊥
+    clash h = let z : _≡_ {A = ℕ} 0 1 = cc in omega arith
+
+pub record Safe (b B p v pL vL : ℕ) : Type 0 where
+  pub below : p < pL
+  pub stops-below : p + stoppingDistance b v < pL + stoppingDistance B vL
+
+-- the test says both halves, and is passed where both hold
+pub safe-says : (b B p v pL vL : ℕ) → safeBehind b B p v pL vL ≡ true → Safe b B p v pL vL
+unfolding safeBehind
+safe-says b B p v pL vL e =
+    let h = both (ltb p pL) (ltb (p + stoppingDistance b v) (pL + stoppingDistance B vL)) e in
+    record { below = ltb-true p pL (h .0); stops-below = ltb-true (p + stoppingDistance b v) (pL + stoppingDistance B vL) (h .1) }
+
+pub safe-holds : (b B p v pL vL : ℕ) → Safe b B p v pL vL → safeBehind b B p v pL vL ≡ true
+unfolding safeBehind
+safe-holds b B p v pL vL h = rw (lt-ltb _ _ (h .below), lt-ltb _ _ (h .stops-below)) refl
+
+-- what lets a carrier leave from the middle
+pub safe-trans : (b B p v q w pL vL : ℕ) → b ≤ B
+    → safeBehind b B p v q w ≡ true → safeBehind b B q w pL vL ≡ true → safeBehind b B p v pL vL ≡ true
+safe-trans b B p v q w pL vL hB e f =
+    let x = safe-says b B p v q w e in
+    let y = safe-says b B q w pL vL f in
+    safe-holds b B p v pL vL
+    (record { below = omega (arith, x .below, y .below); stops-below = omega (arith, x .stops-below, y .stops-below, S.mono {c = B} {d = b} {v = w} {w = w} hB (omega arith)) })
+
+-- ---- one cycle of a safe pair: the follower drives w, the one ahead a
+
+tested : (b B p v : ℕ) (w : ℤ) (pL vL u : ℕ) → pos v +ℤ w ≡ pos u
+    → restsBehind b B p v w pL vL ≡ true → p + v + u + stoppingDistance b u < pL + stoppingDistance B vL
+unfolding restsBehind
+tested b B p v w pL vL u e t = ltb-true _ _ (rw (position-is v w u e p, speed-is v w u e) at t)
+
+-- a wish at or below guaranteed braking passes the test of a carrier that is safe behind
+pub braking-passes : (b B p v : ℕ) (w : ℤ) (pL vL : ℕ) → 1 ≤ b → b ≤ B → safeBehind b B p v pL vL ≡ true
+    → braking B v ≤ℤ w → w ≤ℤ braking b v → restsBehind b B p v w pL vL ≡ true
+unfolding restsBehind
+braking-passes b B p v w pL vL hb hB s lo hi =
+    let d = driven B v w lo in
+    let h = safe-says b B p v pL vL s in
+    rw (position-is v w (d .0) (d .1) p, speed-is v w (d .0) (d .1))
+    (lt-ltb (p + v + d .0 + stoppingDistance b (d .0)) (pL + stoppingDistance B vL)
+    (omega (arith, h .stops-below, braking-gains b v (d .0) hb (slower b v w (d .0) (d .1) hi))))
+
+module _ (b B p v : ℕ) (w : ℤ) (pL vL : ℕ) (a : ℤ) (hb : 1 ≤ b) (hB : b ≤ B)
+    (safe : safeBehind b B p v pL vL ≡ true) (test : restsBehind b B p v w pL vL ≡ true)
+    (lo : braking B v ≤ℤ w) (loL : braking B vL ≤ℤ a) where
+  -- the pair is safe again after the cycle
+  pub cycle-keeps-safe : safeBehind b B (positionAfter p v w) (speedAfter v w) (positionAfter pL vL a) (speedAfter vL a) ≡ true
+  cycle-keeps-safe =
+      let d = driven B v w lo in
+      let e = driven B vL a loL in
+      let t = tested b B p v w pL vL (d .0) (d .1) test in
+      rw (position-is v w (d .0) (d .1) p, speed-is v w (d .0) (d .1), position-is vL a (e .0) (e .1) pL, speed-is vL a (e .0) (e .1))
+      (safe-holds b B (p + v + d .0) (d .0) (pL + vL + e .0) (e .0)
+      (record {
+        below = ends-apart b B p v (d .0) pL vL (e .0) hb hB (safe-says b B p v pL vL safe .below) t (d .2) (e .2);
+        stops-below = stops-apart b B p v (d .0) pL vL (e .0) hb hB (safe-says b B p v pL vL safe .below) t (d .2) (e .2);
+      }))
+
+  -- and the follower is below the one ahead at every fraction of it
+  pub apart-at : (n k : ℕ) → 1 ≤ n → k ≤ n → positionAt n k p v w <ℤ positionAt n k pL vL a
+  apart-at n k hn hk =
+      let d = driven B v w lo in
+      let e = driven B vL a loL in
+      let t = tested b B p v w pL vL (d .0) (d .1) test in
+      let s : k + (n - k) ≡ n = omega arith in
+      let below = safe-says b B p v pL vL safe .below in
+      subst (λ (m : ℕ). positionAt m k p v w <ℤ positionAt m k pL vL a) s
+      (rw (trajectory-is v w (d .0) (d .1) k (n - k) p, trajectory-is vL a (e .0) (e .1) k (n - k) pL)
+      (lt-pos
+      (weighted (n - k) k p (p + v) (p + v + d .0) pL (pL + vL) (pL + vL + e .0) (omega arith) below
+      (middle-apart b B p v (d .0) pL vL (e .0) hb hB below t (d .2) (e .2))
+      (ends-apart b B p v (d .0) pL vL (e .0) hb hB below t (d .2) (e .2)))))
+
+-- ---- what safe behind is for: where both brake, the follower at b and the one ahead at B, they never touch, at no fraction of any cycle
+
+-- guaranteed braking is no harder than the hardest
+braking-order : (b B v : ℕ) → b ≤ B → braking B v ≤ℤ braking b v
+unfolding braking
+braking-order b B v h = neg-le (min B v) (min b v) (omega arith)
+
+pub stops-without-touching : (b B p v pL vL : ℕ) → 1 ≤ b → b ≤ B → safeBehind b B p v pL vL ≡ true
+    → (j n k : ℕ) → 1 ≤ n → k ≤ n
+    → positionAt n k (p + gained j b v) (slowed j b v) (braking b (slowed j b v))
+    <ℤ positionAt n k (pL + gained j B vL) (slowed j B vL) (braking B (slowed j B vL))
+stops-without-touching b B p v pL vL hb hB s zero n k hn hk =
+    rw (S.gained-none b v, S.gained-none B vL, S.slowed-none b v, S.slowed-none B vL, add-zero p, add-zero pL)
+    (apart-at b B p v (braking b v) pL vL (braking B vL) hb hB s
+    (braking-passes b B p v (braking b v) pL vL hb hB s (braking-order b B v hB) (≤ℤ-refl (braking b v)))
+    (braking-order b B v hB) (≤ℤ-refl (braking B vL)) n k hn hk)
+stops-without-touching b B p v pL vL hb hB s (suc j) n k hn hk =
+    rw (S.gained-next j b v, S.gained-next j B vL, S.slowed-next j b v, S.slowed-next j B vL, moved p v (v - b) (gained j b (v - b)), moved pL vL (vL - B) (gained j B (vL - B)))
+    (stops-without-touching b B (p + v + (v - b)) (v - b) (pL + vL + (vL - B)) (vL - B) hb hB
+    (rw (S.next-position b p v, S.next-speed b v, S.next-position B pL vL, S.next-speed B vL) at
+    (cycle-keeps-safe b B p v (braking b v) pL vL (braking B vL) hb hB s
+    (braking-passes b B p v (braking b v) pL vL hb hB s (braking-order b B v hB) (≤ℤ-refl (braking b v)))
+    (braking-order b B v hB) (≤ℤ-refl (braking B vL))))
+    j n k hn hk)
+  where
+    moved : (x y z g : ℕ) → x + (y + z + g) ≡ x + y + z + g
+    moved x y z g = omega arith

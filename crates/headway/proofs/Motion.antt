@@ -1,0 +1,55 @@
+-- One cycle in natural numbers: with u the speed afterwards, a carrier gains v + u.
+use mathlib.Core.Path.{_≡_, refl, sym, ap, _∙_}
+use Prim.Native.Nat.{ℕ, _+_, _-_, _*_, _≤_, _<_, min}
+use native.Mathlib.Omega.{arith}
+use lib.IntN.{ℤ, pos, negℤ, natAbs, _+ℤ_, _*ℤ_}
+use lib.Signed.{_≤ℤ_}
+use Rattle.headway.specs.Motion.{speedAfter, positionAfter, positionAt}
+use Rattle.headway.specs.Stopping.{braking}
+use Rattle.headway.proofs.Integers.{pos-minus, reached, lacks, more, times}
+
+module _ (v : ℕ) (a : ℤ) (u : ℕ) (e : pos v +ℤ a ≡ pos u) where
+  pub speed-is : speedAfter v a ≡ u
+  unfolding speedAfter
+  speed-is = ap natAbs e
+
+  pub position-is : (p : ℕ) → positionAfter p v a ≡ p + v + u
+  unfolding positionAfter
+  position-is p = ap natAbs (ap (λ (x : ℕ). pos x +ℤ a) (twice p v) ∙ more (p + v) v a u e)
+    where
+      twice : (x y : ℕ) → x + 2 * y ≡ x + y + y
+      twice x y = omega arith
+
+  -- n = k + m: the weights of the control points p, p + v and p + v + u are m², 2mk and k²
+  pub trajectory-is : (k m p : ℕ) → positionAt (k + m) k p v a ≡ pos (m * m * p + 2 * m * k * (p + v) + k * k * (p + v + u))
+  unfolding positionAt
+  trajectory-is k m p =
+      ap (λ (x : ℕ). pos x +ℤ a *ℤ pos (k * k)) (apart k m p v)
+      ∙ more (m * m * p + 2 * m * k * (p + v) + k * k * (p + v)) (v * (k * k)) (a *ℤ pos (k * k)) (u * (k * k)) (times v a u (k * k) e)
+      ∙ ap pos (joined k m p v u)
+    where
+      apart : (k m p v : ℕ) → (k + m) * (k + m) * p + 2 * v * k * (k + m) ≡ m * m * p + 2 * m * k * (p + v) + k * k * (p + v) + v * (k * k)
+      apart k m p v = omega arith
+
+      joined : (k m p v u : ℕ) → m * m * p + 2 * m * k * (p + v) + k * k * (p + v) + u * (k * k) ≡ m * m * p + 2 * m * k * (p + v) + k * k * (p + v + u)
+      joined k m p v u = omega arith
+
+-- braking takes the speed to v − c, or to 0
+pub braked : (c v : ℕ) → pos v +ℤ braking c v ≡ pos (v - c)
+unfolding braking
+braked c v = pos-minus v (min c v) (omega arith) ∙ ap pos (rest c v)
+  where
+    rest : (x y : ℕ) → y - min x y ≡ y - x
+    rest x y = omega arith
+
+-- an acceleration no harder than braking at rate c leads to a speed of at least v − c
+pub driven : (c v : ℕ) (a : ℤ) → braking c v ≤ℤ a → (u : ℕ) × (pos v +ℤ a ≡ pos u) × (v - c ≤ u)
+unfolding braking
+driven c v a h =
+    let r = reached v (min c v) a (omega arith) h in
+    (r .0, r .1, omega (arith, r .2))
+
+-- an acceleration at least as hard as braking at rate c leads to a speed of at most v − c
+pub slower : (c v : ℕ) (a : ℤ) (u : ℕ) → pos v +ℤ a ≡ pos u → a ≤ℤ braking c v → u ≤ v - c
+unfolding braking
+slower c v a u e h = omega (arith, lacks v (min c v) a u e h)

@@ -1,0 +1,4 @@
+pub mod Motion
+pub mod Stopping
+pub mod Wishes
+pub mod Totals
