@@ -2,7 +2,7 @@
 -- b and B are any rates with 1 ≤ b ≤ B; nothing here knows of rows, places or lanes.
 use mathlib.Core.Path.{_≡_, refl, sym, ap, _∙_, subst}
 use mathlib.Core.Bool.{Bool, true, false, _&&_}
-use Prim.Native.Nat.{ℕ, zero, suc, _+_, _-_, _*_, _/_, _%_, _≤_, _<_, min}
+use Prim.Native.Nat.{ℕ, zero, suc, _+_, _-_, _*_, _/_, _%_, _^_, _≤_, _<_, min}
 use native.Mathlib.Nat.{add-zero}
 use native.Mathlib.Omega.{arith}
 use borrow.Author.Tests.{lt-ltb, ltb-true}
@@ -12,8 +12,12 @@ use lib.Signed.{_≤ℤ_, _<ℤ_, ≤ℤ-refl}
 use Rattle.headway.specs.Motion.{speedAfter, positionAfter, positionAt}
 use Rattle.headway.specs.Stopping.{braking, slowed, gained, stoppingDistance, safeBehind}
 use Rattle.headway.specs.Wishes.{restsBehind}
+use Rattle.headway.specs.Totals.{movedOf, safeOf, passesOf}
+use Rattle.headway.specs.declared.Moved.the-variants.{To}
 use Rattle.headway.proofs.Integers.{lt-pos, neg-le}
-use Rattle.headway.proofs.Motion.{speed-is, position-is, trajectory-is, driven, slower}
+use Rattle.headway.proofs.Motion.{speed-is, position-is, trajectory-is, braked, driven, slower}
+use Rattle.headway.proofs.Signed.{is-speed, moved-is}
+use Rattle.headway.proofs.Totals.{two-rates}
 use Rattle.headway.proofs.Stopping as S
 use Rattle.headway.proofs.Pair.{braking-gains, weighted, stops-apart, middle-apart, ends-apart}
 
@@ -30,6 +34,30 @@ speed-after = speed-is
 
 pub position-after : (p v : ℕ) (a : ℤ) (u : ℕ) → pos v +ℤ a ≡ pos u → positionAfter p v a ≡ p + v + u
 position-after p v a u e = position-is v a u e p
+
+pub braking-speed : (c v : ℕ) → pos v +ℤ braking c v ≡ pos (v - c)
+braking-speed = braked
+
+-- an acceleration no harder than braking at some rate leads to a speed
+pub leads-to-speed : (c v : ℕ) (a : ℤ) → braking c v ≤ℤ a → pos v +ℤ a ≡ pos (speedAfter v a)
+leads-to-speed c v a h =
+    let d = driven c v a h in
+    rw (speed-is v a (d .0) (d .1)) (d .1)
+
+-- ---- the functions' outcomes for the numbers of the document
+
+pub safe-is : (b B p v pL vL : ℕ) → 1 ≤ b → 1 ≤ B → safeOf b B p v pL vL ≡ safeBehind b B p v pL vL
+unfolding safeOf
+safe-is b B p v pL vL hb hB = rw (two-rates b B (λ e. omega arith) (λ e. omega arith)) refl
+
+pub passes-is : (b B p v : ℕ) (w : ℤ) (pL vL u : ℕ) → 1 ≤ b → 1 ≤ B → pos v +ℤ w ≡ pos u → u < 2 ^ 32
+    → passesOf b B p v w pL vL ≡ restsBehind b B p v w pL vL
+unfolding passesOf
+passes-is b B p v w pL vL u hb hB e h = rw (two-rates b B (λ f. omega arith) (λ f. omega arith), is-speed v w u e h) refl
+
+pub moved-to : (p v : ℕ) (a : ℤ) (u : ℕ) → pos v +ℤ a ≡ pos u → u < 2 ^ 32
+    → movedOf p v a ≡ To (positionAfter p v a) (speedAfter v a)
+moved-to = moved-is
 
 -- ---- the stopping distance
 

@@ -51,13 +51,13 @@ within (suc v) (negsuc n) h e f =
     let l : n ≤ v = ltb-false v n e in
     (suc v - suc n, pos-minus (suc v) (suc n) (omega arith), omega arith)
 
-is-speed : (v : ℕ) (a : ℤ) (u : ℕ) → pos v +ℤ a ≡ pos u → u < 2 ^ 32 → isSpeed v a ≡ true
+pub is-speed : (v : ℕ) (a : ℤ) (u : ℕ) → pos v +ℤ a ≡ pos u → u < 2 ^ 32 → isSpeed v a ≡ true
 unfolding isSpeed
 is-speed v a u e h = rw (e, le-leb 0 u (omega arith), lt-ltb u 4294967296 h) refl
 
-moved-is : (p v : ℕ) (a : ℤ) (u : ℕ) → pos v +ℤ a ≡ pos u → u < 2 ^ 32 → To (p + v + u) u ≡ movedOf p v a
+pub moved-is : (p v : ℕ) (a : ℤ) (u : ℕ) → pos v +ℤ a ≡ pos u → u < 2 ^ 32 → movedOf p v a ≡ To (positionAfter p v a) (speedAfter v a)
 unfolding movedOf
-moved-is p v a u e h = rw (is-speed v a u e h, position-is v a u e p, speed-is v a u e) refl
+moved-is p v a u e h = rw (is-speed v a u e h) refl
 
 -- ---- the machine's numbers
 
@@ -78,6 +78,9 @@ module _ (v : ℕ) (h : v < 2 ^ 32) where
   pub low-fits : SFits w64 (pos 0 -ℤ toZ w64 v)
   low-fits = rw low (neg-fits v (omega arith))
 
+  pub low-read : toZ w64 (ofZ w64 (pos 0 -ℤ toZ w64 v)) ≡ negℤ (pos v)
+  low-read = toZ-ofZ low-fits ∙ low
+
   high : pos 4294967295 -ℤ toZ w64 v ≡ pos (4294967295 - v)
   high = rw speed-read (pos-minus 4294967295 v (omega arith))
 
@@ -86,7 +89,7 @@ module _ (v : ℕ) (h : v < 2 ^ 32) where
 
   module _ (a : ℤ) (f : SFits w64 a) where
     low-test : (t : Bool) → ltZ (toZ w64 (ofZ w64 a)) (toZ w64 (ofZ w64 (pos 0 -ℤ toZ w64 v))) ≡ t → ltZ a (negℤ (pos v)) ≡ t
-    low-test t e = ap₂ ltZ (sym (toZ-ofZ f)) (sym (toZ-ofZ low-fits ∙ low)) ∙ e
+    low-test t e = ap₂ ltZ (sym (toZ-ofZ f)) (sym low-read) ∙ e
 
     high-test : (t : Bool) → ltZ (toZ w64 (ofZ w64 (pos 4294967295 -ℤ toZ w64 v))) (toZ w64 (ofZ w64 a)) ≡ t → ltZ (pos (4294967295 - v)) a ≡ t
     high-test t e = ap₂ ltZ (sym (toZ-ofZ high-fits ∙ high)) (sym (toZ-ofZ f)) ∙ e
@@ -122,4 +125,7 @@ module _ (v : ℕ) (h : v < 2 ^ 32) where
       sum-cast = rw sum-read (tt, record { fits = speed .2 })
 
       pub sum-moved : (p : ℕ) → To (p + v + natAbs Sum) (natAbs Sum) ≡ movedOf p v a
-      sum-moved p = rw sum-read (moved-is p v a (speed .0) (speed .1) (speed .2))
+      sum-moved p =
+          let u = speed .0 in
+          let e = speed .1 in
+          rw (sum-read, moved-is p v a u e (speed .2), position-is v a u e p, speed-is v a u e) refl

@@ -25,7 +25,7 @@ no-hardest : (b B : ℕ) → (b ≡ 0 → ⊥) → B ≡ 0 → rated b B ≡ fal
 unfolding rated
 no-hardest b B h e = rw (lt-ltb 0 b (omega arith), e) refl
 
-two-rates : (b B : ℕ) → (b ≡ 0 → ⊥) → (B ≡ 0 → ⊥) → rated b B ≡ true
+pub two-rates : (b B : ℕ) → (b ≡ 0 → ⊥) → (B ≡ 0 → ⊥) → rated b B ≡ true
 unfolding rated
 two-rates b B h k = rw (lt-ltb 0 b (omega arith), lt-ltb 0 B (omega arith)) refl
 

@@ -1,7 +1,7 @@
 // Two carriers on plain numbers: how one moves in a cycle, where it comes to rest, and whether the one behind stays behind.
 ghost use mathlib.Core.Path.{_≡_};
 ghost use Prim.Native.Nat.{_≤_};
-ghost use Rattle.headway.specs.Stopping.{stoppingDistance};
+ghost use Rattle.headway.specs.Stopping.{braking as brakingOf, stoppingDistance};
 ghost use Rattle.headway.specs.Totals.{stopOf, movedOf, safeOf, passesOf};
 
 // The stopping distance; Never at a rate of 0.
@@ -58,6 +58,17 @@ pub fn safe_behind(
     let stop = (position as u64) + distance(guaranteed, speed);
     let leader_stop = (leader_position as u64) + distance(hardest, leader_speed);
     stop < leader_stop
+}
+
+// The acceleration of braking at a rate.
+pub fn braking(rate: u32, speed: u32) -> i64
+    ensures { λ r. ⌜ r ≡ brakingOf rate speed ⌝ }
+{
+    if rate < speed {
+        0 - (rate as i64)
+    } else {
+        0 - (speed as i64)
+    }
 }
 
 // One cycle of a carrier at an acceleration.

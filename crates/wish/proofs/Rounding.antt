@@ -1,0 +1,62 @@
+-- Rounding sees only the value of its fraction (`rounded-same`), and stays within a whole bound on it (`rounded-le`): all that other proofs use. The laws below 1 are for `rounded_size`. Assumes nothing.
+use mathlib.Core.Path.{_≡_, sym, subst}
+use Prim.Native.Nat.{ℕ, zero, suc, _+_, _-_, _*_, _/_, _≤_, _<_, zero-le}
+use native.Mathlib.Nat.{le-trans, le-of-eq, le-antisymm, le-of-suc-le-suc, mul-right-comm, mul-le-mul-right, le-of-mul-le-mul-right, div-lt-iff-lt-mul, div-add-mod', mod-lt, suc-mul, div-eq-of-lt}
+use native.Mathlib.Omega.{arith}
+use mathlib.Core.Bool.{Bool, true, false}
+use lib.Ieee.Nearest.{div-same}
+use Rattle.wish.specs.Rounding.{roundedSize}
+
+-- ---- n / d rounded up
+abbrev pub ceil : ℕ → ℕ → ℕ
+ceil n d = (n + (d - 1)) / d
+
+pub ceil-ge : (n d : ℕ) → 0 < d → n ≤ ceil n d * d
+ceil-ge n d D =
+    let e = div-add-mod' (n + (d - 1)) d in
+    let l = mod-lt (n + (d - 1)) D in
+    omega arith
+
+pub ceil-le : (n d k : ℕ) → 0 < d → n ≤ k * d → ceil n d ≤ k
+ceil-le n d k D h = le-of-suc-le-suc (div-lt-iff-lt-mul D .1 (subst (λ (x : ℕ). n + (d - 1) < x) (sym (suc-mul k d)) (below (k * d) h)))
+  where
+    below : (x : ℕ) → n ≤ x → n + (d - 1) < x + d
+    below x g = omega arith
+
+ceil-mono : (a c b d : ℕ) → 0 < c → 0 < d → a * d ≤ b * c → ceil a c ≤ ceil b d
+ceil-mono a c b d C D h =
+    ceil-le a c (ceil b d) C
+    (le-of-mul-le-mul-right
+    (le-trans h (le-trans (mul-le-mul-right c (ceil-ge b d D)) (le-of-eq (mul-right-comm (ceil b d) d c)))) D)
+
+-- ---- equal fractions are rounded alike
+pub rounded-same : (s : Bool) (a c b d : ℕ) → 0 < c → 0 < d → a * d ≡ b * c → roundedSize s a c ≡ roundedSize s b d
+unfolding roundedSize
+rounded-same false a c b d C D e = div-same a c b d C D e
+rounded-same true a c b d C D e = le-antisymm (ceil-mono a c b d C D (le-of-eq e)) (ceil-mono b d a c D C (le-of-eq (sym e)))
+
+-- ---- n / d is rounded to k at most, where it is k at most
+pub rounded-le : (s : Bool) (n d k : ℕ) → 0 < d → n ≤ k * d → roundedSize s n d ≤ k
+unfolding roundedSize
+rounded-le false n d k D h = le-of-suc-le-suc (div-lt-iff-lt-mul D .1 (subst (λ (x : ℕ). n < x) (sym (suc-mul k d)) (below (k * d) h)))
+  where
+    below : (x : ℕ) → n ≤ x → n < x + d
+    below x g = omega arith
+rounded-le true n d k D h = ceil-le n d k D h
+
+-- ---- a fraction below 1
+pub rounded-small : (n d : ℕ) → n < d → roundedSize false n d ≡ 0
+unfolding roundedSize
+rounded-small n d h = div-eq-of-lt h
+
+pub rounded-none : (s : Bool) (d : ℕ) → 0 < d → roundedSize s 0 d ≡ 0
+rounded-none s d D = le-antisymm (rounded-le s 0 d 0 D zero-le) zero-le
+
+pub rounded-one : (n d : ℕ) → 0 < n → n < d → roundedSize true n d ≡ 1
+unfolding roundedSize
+rounded-one n d N h =
+    le-antisymm (ceil-le n d 1 (omega arith) (omega arith)) (reach (ceil n d) (ceil-ge n d (omega arith)))
+  where
+    reach : (k : ℕ) → n ≤ k * d → 1 ≤ k
+    reach zero g = omega arith
+    reach (suc k) g = omega arith

@@ -1,0 +1,5 @@
+-- What document 01 says of wishes and readings, as definitions.
+pub mod Rounding
+pub mod Units
+pub mod Trimming
+pub mod Reading

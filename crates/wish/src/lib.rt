@@ -1,0 +1,166 @@
+// Wishes as units, their trimming, and what is read of a carrier, in metres.
+ghost use mathlib.Core.Path.{_≡_};
+ghost use mathlib.Core.Bool.{true, false};
+ghost use Prim.Native.Nat.{_^_, _<_};
+ghost use lib.IntN.{pos};
+ghost use lib.Ieee.{fin};
+ghost use lib.Ieee.Exact.{HasValue};
+ghost use Rattle.wish.specs.Rounding.{roundedSize, roundedTimes};
+ghost use Rattle.wish.specs.Units.{liesWithin, accelerationUnits, targetUnits, unitsOf};
+ghost use Rattle.wish.specs.Trimming.{smallerOf, trimmedTo};
+ghost use Rattle.wish.specs.Reading.{readingOf};
+
+// "A wish is of one of four sorts": whole units, an acceleration in m/s², a target speed in m/s, or hold.
+pub enum Wish {
+    Units(i16),
+    Acceleration(f32),
+    TargetSpeed(f32),
+    Hold,
+}
+
+// A wish in units, or a float outside its range.
+pub enum Converted {
+    Units(i64),
+    Outside,
+}
+
+// Position in metres and speed in m/s.
+pub struct Reading {
+    pub position: f64,
+    pub speed: f64,
+}
+
+// A float as a fraction: digits / 2 ^ shift, negative where `negative` is true.
+struct Fraction {
+    negative: bool,
+    digits: u32,
+    shift: u32,
+}
+
+// The fraction that y, from −8192 to 8192, is by its bits. The bound keeps the shift from falling below 0.
+fn fraction_of(y: f32) -> Fraction
+    requires { ⌜ liesWithin (fin true 1 (pos 13)) (fin false 1 (pos 13)) y ≡ true ⌝ }
+    ensures { λ r. ⌜ HasValue y (r .negative) (r .digits) (2 ^ r .shift) × (r .digits < 16777216) ⌝ }
+{
+    let bits: u32 = f32::to_bits(y);
+    let negative: bool = bits >= 0x8000_0000;
+    let exponent: u32 = (bits % 0x8000_0000) >> 23;
+    let significand: u32 = bits % 0x80_0000;
+    if exponent == 0 {
+        // subnormal: no leading one
+        Fraction {
+            negative,
+            digits: significand,
+            shift: 149,
+        }
+    } else {
+        Fraction {
+            negative,
+            digits: 0x80_0000 + significand,
+            shift: 150 - exponent,
+        }
+    }
+}
+
+// The size of the whole number to which that fraction is rounded down. The rule of rounding stands here alone.
+fn rounded_size(negative: bool, digits: u32, shift: u32) -> u32
+    requires { ⌜ digits < 16777216 ⌝ }
+    ensures { λ r. ⌜ r ≡ roundedSize negative digits (2 ^ shift) ⌝ }
+{
+    if shift < 24 {
+        if negative {
+            let unit: u32 = 1 << shift;
+            (digits + (unit - 1)) >> shift
+        } else {
+            digits >> shift
+        }
+    } else if negative {
+        // below 1 in size
+        if digits == 0 { 0 } else { 1 }
+    } else {
+        0
+    }
+}
+
+// y, from −8192 to 8192, rounded to a whole number.
+fn rounded(y: f32) -> i64
+    requires { ⌜ liesWithin (fin true 1 (pos 13)) (fin false 1 (pos 13)) y ≡ true ⌝ }
+    ensures { λ r. ⌜ r ≡ roundedTimes 1 y ⌝ }
+{
+    let f = fraction_of(y);
+    let size = rounded_size(f.negative, f.digits, f.shift);
+    if f.negative {
+        0 - (size as i64)
+    } else {
+        size as i64
+    }
+}
+
+// Whether x lies from low to high, ends included. Not-a-number lies nowhere.
+fn lies_within(low: f32, high: f32, x: f32) -> bool
+    ensures { λ r. ⌜ r ≡ liesWithin low high x ⌝ }
+{
+    low <= x && x <= high
+}
+
+// An acceleration in m/s², in units. In its range the product is exact.
+fn acceleration_units(x: f32) -> Converted
+    ensures { λ r. ⌜ r ≡ accelerationUnits x ⌝ }
+{
+    if lies_within(-16.0, 16.0, x) {
+        Converted::Units(rounded(x * 16.0))
+    } else {
+        Converted::Outside
+    }
+}
+
+// A target speed in m/s, less the present speed v, in units. In its range the product is exact.
+fn target_units(x: f32, v: u32) -> Converted
+    ensures { λ r. ⌜ r ≡ targetUnits x v ⌝ }
+{
+    if lies_within(0.0, 64.0, x) {
+        Converted::Units(rounded(x * 128.0) - (v as i64))
+    } else {
+        Converted::Outside
+    }
+}
+
+// The units of a wish at the present speed v, before trimming. They are 64 bits wide, since v may be any number of 32.
+pub fn units(w: Wish, v: u32) -> Converted
+    ensures { λ r. ⌜ r ≡ unitsOf w v ⌝ }
+{
+    match w {
+        Wish::Units(u) => Converted::Units(u as i64),
+        Wish::Acceleration(x) => acceleration_units(x),
+        Wish::TargetSpeed(x) => target_units(x, v),
+        Wish::Hold => Converted::Units(0),
+    }
+}
+
+fn smaller(a: i64, b: i64) -> i64
+    ensures { λ r. ⌜ r ≡ smallerOf a b ⌝ }
+{
+    if a < b { a } else { b }
+}
+
+// The units w, trimmed for the speed v. Above the limit the ends cross, and the lower one wins: nothing brakes harder than `hardest`.
+pub fn trimmed(w: i64, v: u32, hardest: u32, most: u32, limit: u32) -> i64
+    ensures { λ r. ⌜ r ≡ trimmedTo w v hardest most limit ⌝ }
+{
+    let speed: i64 = v as i64;
+    let low: i64 = 0 - smaller(hardest as i64, speed);
+    let high: i64 = smaller(most as i64, (limit as i64) - speed);
+    let capped: i64 = smaller(high, w);
+    if capped < low { low } else { capped }
+}
+
+// The position p and the speed v in metres and m/s. A whole number of 32 bits by a power of two loses nothing as a double.
+pub fn reading_of(p: u32, v: u32) -> Reading
+    ensures { λ r. ⌜ r ≡ readingOf p v ⌝ }
+    ensures { λ r. ⌜ HasValue (r .position) false p 2048 × HasValue (r .speed) false v 128 ⌝ }
+{
+    Reading {
+        position: (p as f64) / 2048.0,
+        speed: (v as f64) / 128.0,
+    }
+}
