@@ -1,12 +1,12 @@
 -- Integers that are natural numbers: a sum with an integer a that gives one, and its multiples.
 use mathlib.Core.Path.{_≡_, refl, sym, ap, _∙_}
 use mathlib.Core.Bool.{Bool, true, false, cond}
-use Prim.Native.Nat.{ℕ, zero, suc, _+_, _-_, _*_, _≤_, _<_, zero-le}
-use native.Mathlib.Nat.{mul-le-mul-right, add-mul, le-of-suc-le-suc}
+use Prim.Native.Nat.{ℕ, zero, suc, _+_, _-_, _*_, _≤_, _<_}
+use native.Mathlib.Nat.{add-mul, le-of-suc-le-suc}
 use native.Mathlib.Omega.{arith}
 use borrow.Author.Tests.{le-ltb, ltb-false}
-use lib.Dec.{T, ltb, leb→le, le→leb, lt→ltb}
-use lib.IntN.{ℤ, pos, negsuc, negℤ, natAbs, subℕ, _+ℤ_, _*ℤ_, +ℤ-assoc, pos-ne-negsuc}
+use lib.Dec.{ltb, leb→le, le→leb, lt→ltb}
+use lib.IntN.{ℤ, pos, negsuc, negℤ, natAbs, _+ℤ_, _*ℤ_, +ℤ-assoc, pos-ne-negsuc}
 use lib.Signed.{_≤ℤ_, _<ℤ_}
 
 -- a difference that is not negative is one of natural numbers

@@ -1,6 +1,6 @@
 -- The outcomes of `specs/Totals.antt` by the cases that the code tells apart.
-use mathlib.Core.Path.{_≡_, refl, sym, ap, _∙_}
-use mathlib.Core.Bool.{Bool, true, false, _&&_, cond}
+use mathlib.Core.Path.{_≡_, refl, sym, _∙_}
+use mathlib.Core.Bool.{Bool, true, false, cond}
 use mathlib.Core.Logic.{by-cases}
 use Prim.Native.Nat.{ℕ, _+_, _-_, _≤_, _<_}
 use native.Mathlib.Decide.{decLt}
@@ -12,7 +12,6 @@ use Rattle.headway.specs.Motion.{speedAfter, positionAfter}
 use Rattle.headway.specs.Stopping.{stoppingDistance, safeBehind}
 use Rattle.headway.specs.Wishes.{restsBehind}
 use Rattle.headway.specs.Totals.{isSpeed, movedOf, rated, safeOf, passesOf}
-use Rattle.headway.specs.declared.Moved.{Moved}
 use Rattle.headway.specs.declared.Moved.the-variants.{To, Outside}
 
 -- ---- the two rates

@@ -1,6 +1,6 @@
 -- `headway::braking` meets its contract: the smaller of rate and speed, negated.
 use borrow.Author.Needs.{needs}
-use mathlib.Core.Path.{_≡_, sym, ap, _∙_}
+use mathlib.Core.Path.{_≡_, ap, _∙_}
 use Prim.Native.Nat.{ℕ, min}
 use native.Mathlib.Omega.{arith}
 use lib.IntN.{pos, negℤ}

@@ -1,6 +1,5 @@
 -- `headway::safe_behind` meets its contract, by the cases of `Totals`.
 use borrow.Author.Needs.{needs}
-use mathlib.Core.Path.{refl}
 use native.Mathlib.Omega.{arith}
 use Rattle.headway.proofs.Stopping.{fits}
 use Rattle.headway.proofs.Totals.{unsafe-at-0, unsafe-ahead-at-0, unsafe-level, safe-by-stops}

@@ -1,0 +1,104 @@
+-- Document 01, "Edges (M: proved)": all its marked cases in one table, computed from the definitions of every layer. This file alone
+-- opens the definitions of other crates.
+use mathlib.Core.Path.{_≡_, refl, sym, ap, _∙_}
+use mathlib.Core.Bool.{Bool, true, false}
+use mathlib.Core.List.{List, [], _∷_, map}
+use Prim.Native.Nat.{ℕ}
+use lib.IntN.{pos}
+use lib.Ieee.{binary32, ofBits}
+use lib.ListN.{getD, List·getD-map}
+use Rattle.headway.specs.Motion.{speedAfter, positionAfter}
+use Rattle.headway.specs.Stopping.{braking, gained, stoppingDistance, safeBehind}
+use Rattle.headway.specs.Wishes.{restsBehind}
+use Rattle.wish.specs.Units.{unitsOf}
+use Rattle.wish.specs.Trimming.{trimmedTo}
+use Rattle.wish.specs.declared.Converted.{Converted}
+use Rattle.wish.specs.declared.Wish.{Wish}
+use Rattle.wish.specs.declared.Wish.the-variants.{Units, Acceleration, Hold}
+use Rattle.wish.proofs.Cases as Accelerations
+use Rattle.wish.proofs.Cases.{accelerationCases}
+use Rattle.lane.specs.declared.Carrier.{Carrier}
+use Rattle.lane.specs.Surface.{rowOf}
+use Rattle.lane.specs.State.{State}
+use Rattle.lane.specs.Safety.{safeWith, safeFrom, laneSafe, anyOf, firstPlace, repeats}
+use Rattle.lane.specs.Wishes.{trimmedWish, stands, drive, drives, moved, allMoved, anyOutside, wordOf, remaining}
+use Rattle.lane.specs.Calls.{carrier, broken, cycleDrives, cycleNo, cycleWord, cycleState}
+
+-- what a case gives
+pub data Value : Type 0 where
+  distance : ℕ → Value
+  safe : Bool → Value
+  -- a cycle's word, and the carriers after it
+  cycled : ℕ → List Carrier → Value
+  units : Converted → Value
+
+pub data Case : Type 0 where
+  -- S(c, v)
+  stop : (c v : ℕ) → Case
+  -- rates b and B, both speeds v, and the gap
+  gap : (b B v apart : ℕ) → Case
+  -- the example's cycle, with carrier 7 standing at a position
+  example : (position : ℕ) → Case
+  -- an acceleration's bits
+  acceleration : (bits : ℕ) → Case
+
+pub record Entry : Type 0 where
+  pub shown : Case
+  pub gives : Value
+
+abbrev pub entry : Case → Value → Entry
+entry c v = record { shown = c; gives = v }
+
+-- "start 0, 10000, 1000, 0; enter 7 at .. speed 0; enter 8 at 700 speed 64"
+abbrev example-lane : ℕ → State
+example-lane position =
+    record {
+      started = true;
+      surface = 0;
+      end = 10000;
+      limit = 1000;
+      cycle = 0;
+      count = 2;
+      carriers = carrier 7 position 0 ∷ carrier 8 700 64 ∷ [];
+    }
+
+-- "cycle of 2 with `hold` and `units:32`"
+abbrev example-wishes : List Wish
+example-wishes = Hold ∷ Units (pos 32) ∷ []
+
+pub value : Case → Value
+value (stop c v) = distance (stoppingDistance c v)
+value (gap b B v apart) = safe (safeBehind b B 0 v apart v)
+value (example position) =
+    cycled (cycleWord (example-lane position) 2 example-wishes) (cycleState (example-lane position) 2 example-wishes .carriers)
+value (acceleration bits) = units (unitsOf (Acceleration (ofBits binary32 bits)) 0)
+
+abbrev pub first : Entry
+first = entry (stop 3 7) (distance 17)
+
+pub table : List Entry
+table =
+    first
+    ∷ entry (stop 5 7) (distance 11)
+    ∷ entry (stop 255 100) (distance 100)
+    ∷ entry (stop 1 8192) (distance 67108864)
+    ∷ entry (stop 64 96) (distance 160)
+    ∷ entry (stop 6 0) (distance 0)
+    ∷ entry (gap 3 5 7 6) (safe false)
+    ∷ entry (gap 3 5 7 7) (safe true)
+    ∷ entry (example 1020) (cycled 2 (carrier 7 1020 0 ∷ carrier 8 764 0 ∷ []))
+    ∷ entry (example 1021) (cycled 0 (carrier 7 1021 0 ∷ carrier 8 860 96 ∷ []))
+    ∷ map (λ (c : Accelerations.Case). entry (acceleration (c .bits)) (units (c .gives))) accelerationCases
+
+-- the whole table, by one computation
+computed : map (λ (e : Entry). value (e .shown)) table ≡ map (λ (e : Entry). e .gives) table
+unfolding value table accelerationCases stoppingDistance gained braking speedAfter positionAfter safeBehind restsBehind unitsOf ofBits trimmedTo rowOf safeWith safeFrom laneSafe anyOf firstPlace repeats trimmedWish stands drive drives moved allMoved anyOutside wordOf remaining broken cycleDrives cycleNo cycleWord cycleState
+computed = refl
+
+-- and so each of its entries
+pub marked-cases : (i : ℕ) → value (getD table i first .shown) ≡ getD table i first .gives
+unfolding value stoppingDistance gained braking speedAfter positionAfter
+marked-cases i =
+    sym (List·getD-map (λ (e : Entry). value (e .shown)) table i first)
+    ∙ ap (λ (vs : List Value). getD vs i (distance 17)) computed
+    ∙ List·getD-map (λ (e : Entry). e .gives) table i first

@@ -1,0 +1,18 @@
+-- The carrier ahead of a place of the first `count`, as an index finds it.
+use mathlib.Core.Path.{_≡_, refl}
+use mathlib.Core.List.{List}
+use Prim.Native.Nat.{ℕ, _-_, _≤_, _<_}
+use native.Mathlib.Omega.{arith}
+use borrow.Author.Tests.{eq-eqb, ne-eqb}
+use lib.ListN.{getD, take}
+use lib.Seq.{getD-take}
+use Rattle.lane.specs.declared.Carrier.{Carrier}
+use Rattle.lane.specs.Safety.{nobody, leader}
+use Rattle.lane.specs.Calls.{none, aheadOf}
+
+module _ (l : List Carrier) (count place : ℕ) where
+  pub ahead-is : 0 < place → place ≤ count → aheadOf place (take count l) ≡ leader (getD l (place - 1) none)
+  ahead-is p h = rw (ne-eqb place 0 (λ e. omega arith), getD-take count l (place - 1) none (omega arith)) refl
+
+  pub ahead-nobody : place ≤ 0 → aheadOf place (take count l) ≡ nobody
+  ahead-nobody h = rw (eq-eqb place 0 (omega arith)) refl

@@ -1,0 +1,26 @@
+-- A test that no carrier passes is passed by none at any place.
+use mathlib.Core.Path.{_≡_, refl, sym, ap, _∙_}
+use mathlib.Core.Bool.{Bool, true, false, _||_, false≢true}
+use mathlib.Core.List.{List, [], _∷_}
+use Prim.Native.Nat.{ℕ, zero, suc, _≤_, _<_}
+use native.Mathlib.Omega.{arith}
+use lib.ListN.{length, getD, take}
+use lib.Seq.{getD-take, length-take-le}
+use Rattle.lane.specs.declared.Carrier.{Carrier}
+use Rattle.lane.specs.Safety.{anyOf}
+
+pub neither : (s t : Bool) → s || t ≡ false → (s ≡ false) × (t ≡ false)
+neither true t e = (e, absurd (false≢true (sym e)))
+neither false t e = (refl, e)
+
+pub none-at : (f : Carrier → Bool) (l : List Carrier) (i : ℕ) (d : Carrier) → anyOf f l ≡ false → i < length l → f (getD l i d) ≡ false
+unfolding anyOf
+none-at f [] i d e h = absurd (omega arith)
+none-at f (c ∷ l) zero d e h = neither (f c) (anyOf f l) e .0
+none-at f (c ∷ l) (suc i) d e h = none-at f l i d (neither (f c) (anyOf f l) e .1) (omega arith)
+
+-- the same of the first `count` records
+pub none-of : (f : Carrier → Bool) (l : List Carrier) (count i : ℕ) (d : Carrier) → anyOf f (take count l) ≡ false → i < count → count ≤ length l
+    → f (getD l i d) ≡ false
+none-of f l count i d e h k =
+    ap f (sym (getD-take count l i d h)) ∙ none-at f (take count l) i d e (omega (arith, length-take-le count l k))

@@ -1,0 +1,5 @@
+pub mod Surface
+pub mod State
+pub mod Safety
+pub mod Wishes
+pub mod Calls

@@ -1,0 +1,93 @@
+-- Document 01, "Wishes": what a cycle does with the wish of each carrier.
+use Prim.Native.Nat.{ℕ, _+_, _*_}
+use mathlib.Core.Bool.{Bool, true, false, not, _||_, cond}
+use mathlib.Core.List.{List, [], _∷_, map}
+use lib.Dec.{ltb}
+use lib.IntN.{ℤ, pos}
+use lib.Signed.{leZ}
+use Rattle.headway.specs.Motion.{speedAfter, positionAfter}
+use Rattle.headway.specs.Stopping.{braking}
+use Rattle.headway.specs.Wishes.{restsBehind}
+use Rattle.wish.specs.Units.{unitsOf}
+use Rattle.wish.specs.Trimming.{trimmedTo}
+use Rattle.wish.specs.declared.Wish.{Wish}
+use Rattle.wish.specs.declared.Converted.{Converted}
+use Rattle.wish.specs.declared.Converted.the-variants.{Units, Outside}
+use Rattle.lane.specs.declared.Carrier.{Carrier}
+use Rattle.lane.specs.declared.Drive.{Drive}
+use Rattle.lane.specs.declared.Row.{Row}
+use Rattle.lane.specs.Safety.{Ahead, nobody, leader}
+
+abbrev pub isOutside : Converted → Bool
+isOutside (Units z) = false
+isOutside Outside = true
+
+-- a wish outside its range, whose call is refused, counts as 0 units
+abbrev pub unitsIn : Converted → ℤ
+unitsIn (Units z) = z
+unitsIn Outside = pos 0
+
+-- "The units are trimmed into −(smaller of B and v) to the smaller of A and V − v."
+unfoldable pub trimmedWish : Row → (limit : ℕ) → Carrier → Wish → ℤ
+trimmedWish r limit c w = trimmedTo (unitsIn (unitsOf w (c .speed))) (c .speed) (r .hardest) (r .most) limit
+
+-- "A trimmed w at or below −(smaller of b and v) stands. So does any w of the foremost carrier, and any w with
+-- p + 2v + w + S(b, v + w) below p of the carrier ahead + S(B, its v), both taken at the cycle's start."
+unfoldable pub stands : Row → Ahead → Carrier → ℤ → Bool
+stands r nobody c w = true
+stands r (leader a) c w =
+    leZ w (braking (r .guaranteed) (c .speed))
+    || restsBehind (r .guaranteed) (r .hardest) (c .position) (c .speed) w (a .position) (a .speed)
+
+-- "Otherwise w is replaced by −(smaller of b and v)."
+unfoldable pub drive : Row → (limit : ℕ) → Ahead → Carrier → Wish → Drive
+drive r limit ahead c w =
+    let stays = stands r ahead c (trimmedWish r limit c w) in
+    record {
+      outside = isOutside (unitsOf w (c .speed));
+      replaced = not stays;
+      acceleration = cond stays (trimmedWish r limit c w) (braking (r .guaranteed) (c .speed));
+    }
+
+-- what each carrier does, front to back, the first of the list behind `ahead`: the carrier ahead is as at the cycle's start
+unfoldable pub drives : Row → (limit : ℕ) → Ahead → List Carrier → List Wish → List Drive
+drives r limit ahead [] ws = []
+drives r limit ahead (c ∷ cs) [] = []
+drives r limit ahead (c ∷ cs) (w ∷ ws) = drive r limit ahead c w ∷ drives r limit (leader c) cs ws
+
+-- "One cycle with a: the speed becomes v + a, the position p + 2v + a."
+unfoldable pub moved : Carrier → ℤ → Carrier
+moved c a =
+    record { number = c .number; position = positionAfter (c .position) (c .speed) a; speed = speedAfter (c .speed) a }
+
+unfoldable pub allMoved : List Carrier → List Drive → List Carrier
+allMoved [] ds = []
+allMoved (c ∷ cs) [] = []
+allMoved (c ∷ cs) (d ∷ ds) = moved c (d .acceleration) ∷ allMoved cs ds
+
+-- some wish is a float outside its range
+unfoldable pub anyOutside : List Drive → Bool
+anyOutside [] = false
+anyOutside (d ∷ ds) = d .outside || anyOutside ds
+
+abbrev pub bit : Bool → ℕ
+bit true = 1
+bit false = 0
+
+-- "one 64-bit word in which bit i is set if the wish of place i was replaced": place 0 is the lowest bit
+unfoldable pub wordOf : List Bool → ℕ
+wordOf [] = 0
+wordOf (t ∷ ts) = bit t + 2 * wordOf ts
+
+-- "the number of replaced wishes"
+unfoldable pub countOf : List Bool → ℕ
+countOf [] = 0
+countOf (t ∷ ts) = bit t + countOf ts
+
+abbrev pub replacedIn : List Drive → List Bool
+replacedIn = map (λ d. d .replaced)
+
+-- "A carrier at or past the lane end afterwards is gone, and its place serves again."
+unfoldable pub remaining : (end : ℕ) → List Carrier → List Carrier
+remaining end [] = []
+remaining end (c ∷ cs) = cond (ltb (c .position) end) (c ∷ remaining end cs) (remaining end cs)

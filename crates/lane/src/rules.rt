@@ -1,0 +1,244 @@
+// The checks of each call, in the document's order, and the rules of a lane behind check 21.
+ghost use mathlib.Core.Path.{_≡_};
+ghost use mathlib.Core.Bool.{_||_, not, cond};
+ghost use Prim.Native.Nat.{_≤_};
+ghost use lib.Dec.{eqb, leb, ltb};
+ghost use lib.ListN.{take};
+ghost use Rattle.lane.specs.State.{stateOf};
+ghost use Rattle.lane.specs.Safety.{leader, safeWith, laneSafe, anyOf, numbered, repeats};
+ghost use Rattle.lane.specs.Calls.{badEnd, badLimit, broken, startNo, gapNo, walk, enterNo, enterPlace, namedNo, namedPlace};
+use crate::Carrier;
+use crate::Lane;
+use crate::Row;
+use crate::places;
+use crate::rows;
+
+fn bad_end(end: u32) -> bool
+    ensures { λ r. ⌜ r ≡ badEnd end ⌝ }
+{
+    if end < 1 { true } else { 2147483648 < end }
+}
+
+fn bad_limit(limit: u32) -> bool
+    ensures { λ r. ⌜ r ≡ badLimit limit ⌝ }
+{
+    if limit < 1 { true } else { 8192 < limit }
+}
+
+pub(crate) fn start_refusal(surface: u32, end: u32, limit: u32) -> u32
+    ensures { λ r. ⌜ r ≡ startNo surface end limit ⌝ }
+{
+    if 7 < surface {
+        return 1;
+    }
+    if bad_end(end) {
+        return 2;
+    }
+    if bad_limit(limit) {
+        return 3;
+    }
+    0
+}
+
+// A carrier breaks a rule by itself.
+fn unlawful(c: Carrier, end: u32, limit: u32) -> bool
+    ensures { λ r. ⌜ r ≡ (numbered 0 c || ltb limit (c .speed) || leb end (c .position)) ⌝ }
+{
+    if c.number == 0 {
+        return true;
+    }
+    if limit < c.speed {
+        return true;
+    }
+    end <= c.position
+}
+
+fn any_unlawful(carriers: [Carrier; 64], count: usize, end: u32, limit: u32) -> bool
+    requires { ⌜ count ≤ 64 ⌝ }
+    ensures { λ r. ⌜ r ≡ anyOf (λ c. numbered 0 c || ltb limit (c .speed) || leb end (c .position)) (take count carriers) ⌝ }
+{
+    let mut i: usize = 0;
+    while i < count {
+        let c = carriers[i];
+        if unlawful(c, end, limit) {
+            return true;
+        }
+        i += 1;
+    }
+    false
+}
+
+fn any_repeated(carriers: [Carrier; 64], count: usize) -> bool
+    requires { ⌜ count ≤ 64 ⌝ }
+    ensures { λ r. ⌜ r ≡ repeats (take count carriers) ⌝ }
+{
+    let mut i: usize = 0;
+    while i < count {
+        let c = carriers[i];
+        let again = places::find_from(carriers, i + 1, count, c.number);
+        if again < count {
+            return true;
+        }
+        i += 1;
+    }
+    false
+}
+
+// The follower is safe behind the carrier ahead.
+fn safe(row: Row, ahead: Carrier, c: Carrier) -> bool
+    requires { ⌜ (1 ≤ row .guaranteed) × (1 ≤ row .hardest) ⌝ }
+    ensures { λ r. ⌜ r ≡ safeWith row (leader ahead) c ⌝ }
+{
+    headway::safe_behind(
+        row.guaranteed,
+        row.hardest,
+        c.position,
+        c.speed,
+        ahead.position,
+        ahead.speed,
+    )
+}
+
+fn all_safe(carriers: [Carrier; 64], count: usize, row: Row) -> bool
+    requires { ⌜ (count ≤ 64) × ((1 ≤ row .guaranteed) × (1 ≤ row .hardest)) ⌝ }
+    ensures { λ r. ⌜ r ≡ laneSafe row (take count carriers) ⌝ }
+{
+    let mut i: usize = 1;
+    while i < count {
+        let ahead = carriers[i - 1];
+        let c = carriers[i];
+        if !safe(row, ahead, c) {
+            return false;
+        }
+        i += 1;
+    }
+    true
+}
+
+// Check 21.
+fn breaks_rule(l: Lane) -> bool
+    ensures { λ r. ⌜ r ≡ broken (stateOf l) ⌝ }
+{
+    if !l.started {
+        return true;
+    }
+    if 7 < l.surface {
+        return true;
+    }
+    if bad_end(l.end) {
+        return true;
+    }
+    if bad_limit(l.limit) {
+        return true;
+    }
+    let count = l.count;
+    if 64 < count {
+        return true;
+    }
+    let carriers = l.carriers;
+    if any_unlawful(carriers, count, l.end, l.limit) {
+        return true;
+    }
+    if any_repeated(carriers, count) {
+        return true;
+    }
+    !all_safe(carriers, count, rows::row(l.surface))
+}
+
+// A check's number, 0 where all are passed, and the place that the call is about.
+pub(crate) struct Checked {
+    pub(crate) no: u32,
+    pub(crate) place: usize,
+}
+
+fn refused(no: u32) -> Checked
+    ensures { λ r. ⌜ (r .no ≡ no) × (r .place ≡ 0) ⌝ }
+{
+    Checked { no, place: 0 }
+}
+
+// The carriers next to a place: 25 and 26.
+fn gap_refusal(carriers: [Carrier; 64], count: usize, place: usize, row: Row, c: Carrier) -> u32
+    requires { ⌜ ((count ≤ 64) × (place ≤ count)) × ((1 ≤ row .guaranteed) × (1 ≤ row .hardest)) ⌝ }
+    ensures { λ r. ⌜ r ≡ gapNo row place c (take count carriers) ⌝ }
+{
+    if 0 < place {
+        let ahead = carriers[place - 1];
+        if !safe(row, ahead, c) {
+            return 25;
+        }
+    }
+    if place < count {
+        let behind = carriers[place];
+        if !safe(row, c, behind) {
+            return 26;
+        }
+    }
+    0
+}
+
+pub(crate) fn check_enter(l: Lane, c: Carrier) -> Checked
+    ensures { λ r. ⌜ (r .no ≡ enterNo (stateOf l) c) × (r .place ≡ enterPlace (stateOf l) c) ⌝ }
+{
+    if breaks_rule(l) {
+        return refused(21);
+    }
+    if c.number == 0 {
+        return refused(4);
+    }
+    if l.end <= c.position {
+        return refused(5);
+    }
+    if l.limit < c.speed {
+        return refused(6);
+    }
+    let count = l.count;
+    if count == 64 {
+        return refused(22);
+    }
+    let carriers = l.carriers;
+    if places::find_from(carriers, 0, count, c.number) < count {
+        return refused(23);
+    }
+    let place = places::entry_place(carriers, count, c.position);
+    let no = gap_refusal(carriers, count, place, rows::row(l.surface), c);
+    if no != 0 {
+        return refused(no);
+    }
+    Checked { no: 0, place }
+}
+
+// The checks of leave and read.
+pub(crate) fn check_named(l: Lane, number: u16) -> Checked
+    ensures { λ r. ⌜ (r .no ≡ namedNo (stateOf l) number) × (r .place ≡ namedPlace (stateOf l) number) ⌝ }
+{
+    if breaks_rule(l) {
+        return refused(21);
+    }
+    if number == 0 {
+        return refused(4);
+    }
+    let count = l.count;
+    let carriers = l.carriers;
+    let place = places::find_from(carriers, 0, count, number);
+    if count <= place {
+        return refused(24);
+    }
+    Checked { no: 0, place }
+}
+
+// The checks of cycle but for the wishes' ranges.
+pub(crate) fn check_cycle(l: Lane, count: usize) -> u32
+    ensures { λ r. ⌜ r ≡ cond (broken (stateOf l)) 21 (cond (not (eqb count (l .count))) 27 (cond (eqb (l .cycle) 18446744073709551615) 28 0)) ⌝ }
+{
+    if breaks_rule(l) {
+        return 21;
+    }
+    if count != l.count {
+        return 27;
+    }
+    if l.cycle == 18446744073709551615 {
+        return 28;
+    }
+    0
+}
