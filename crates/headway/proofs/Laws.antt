@@ -171,7 +171,7 @@ module _ (b B p v : ℕ) (w : ℤ) (pL vL : ℕ) (a : ℤ) (hb : 1 ≤ b) (hB : 
 -- ---- what safe behind is for: where both brake, the follower at b and the one ahead at B, they never touch, at no fraction of any cycle
 
 -- guaranteed braking is no harder than the hardest
-braking-order : (b B v : ℕ) → b ≤ B → braking B v ≤ℤ braking b v
+pub braking-order : (b B v : ℕ) → b ≤ B → braking B v ≤ℤ braking b v
 unfolding braking
 braking-order b B v h = neg-le (min B v) (min b v) (omega arith)
 

@@ -1,7 +1,7 @@
 -- The answers of `specs/Calls.antt` by the two cases that a call ends in: refused, with the state as it was, or accepted.
 use mathlib.Core.Path.{_≡_, refl, sym, _∙_}
 use mathlib.Core.Bool.{Bool, true, false, not, cond}
-use mathlib.Core.List.{List, [], _∷_}
+use mathlib.Core.List.{List, []}
 use Prim.Native.Nat.{ℕ, suc, _+_, _-_, _≤_, _<_}
 use native.Mathlib.Omega.{arith}
 use borrow.Author.Tests.{ne-eqb, eqb-true, eqb-false, ltb-true, not-false}
@@ -18,6 +18,7 @@ use Rattle.lane.specs.State.{State, stateOf}
 use Rattle.lane.specs.Safety.{nobody, anyOf, numbered}
 use Rattle.lane.specs.Wishes.{drives, anyOutside, replacedIn, wordOf, countOf}
 use Rattle.lane.specs.Calls.{broken, withCarriers, ifAccepted, startNo, startState, walk, none, enterNo, insertAt, enterPlace, enterState, namedNo, placeOf, namedPlace, removeAt, leaveState, readReading, cycleDrives, cycleNo, cycleWord, cycleReplaced, cycleCarriers, cycleGone, cycleState}
+use Rattle.lane.proofs.Passed.{passed}
 use Rattle.lane.proofs.Search.{place-any, place-le}
 use Rattle.lane.proofs.Soundness.{Sound, sound}
 
@@ -28,11 +29,6 @@ refused-has n x y h = rw (ne-eqb n 0 h) refl
 
 pub accepted-has : {A : Type 0} (n : ℕ) (x y : A) → n ≡ 0 → ifAccepted n x y ≡ x
 accepted-has n x y e = rw e refl
-
--- where no number is given a check is passed, and so are those after it
-passed : (t : Bool) (k n : ℕ) → cond t (suc k) n ≡ 0 → (t ≡ false) × (n ≡ 0)
-passed true k n e = absurd (omega arith)
-passed false k n e = (refl, e)
 
 -- a state with its cycle number, count and carriers set
 abbrev set-to : State → (cycle n : ℕ) → List Carrier → State
@@ -93,10 +89,6 @@ module _ (s : State) (c : Carrier) (n : ℕ) (e : n ≡ enterNo s c) where
 pub walk-le : (p : ℕ) (cs : List Carrier) → walk p cs ≤ length cs
 unfolding walk
 walk-le p cs = place-le _ cs
-
-pub length-inserted : (place : ℕ) (c : Carrier) (cs : List Carrier) → place ≤ length cs → length (insertAt place c cs) ≡ length cs + 1
-length-inserted place c cs h =
-    length-append (take place cs) (c ∷ drop place cs) ∙ omega (arith, length-take place cs, length-drop place cs)
 
 -- ---- leave and read
 module _ (s : State) (number n : ℕ) (e : n ≡ namedNo s number) where

@@ -53,7 +53,11 @@ module _ (r : Row) (limit end count : ℕ) (cs : List Carrier) (ws : List Wish) 
   module _ (y : Carrier) (z : Wish) (next : List Carrier) (left word : ℕ) (ahead : Carrier) (i : ℕ) (m : Driving next left word ahead i)
       (h : i < count) (kc : count ≤ length cs) (kw : count ≤ length ws) (k : count ≤ 64)
       (d : Drive) (e : d ≡ drive r limit (aheadAt i ahead) (getD cs i y) (getD ws i z)) where
-    step : rest ahead i ≡ d ∷ rest (getD cs i y) (i + 1)
+    -- who is ahead of the next place: the carrier as at the cycle's start
+    abbrev following : Carrier
+    following = getD cs i y
+
+    step : rest ahead i ≡ d ∷ rest following (i + 1)
     unfolding drives
     step =
         let late : eqb (i + 1) 0 ≡ false = ne-eqb (i + 1) 0 (λ q. omega arith) in
@@ -64,7 +68,7 @@ module _ (r : Row) (limit end count : ℕ) (cs : List Carrier) (ws : List Wish) 
     outside-here o = sym (m .inside ∙ rw (step, o) refl)
 
     abbrev more : List Carrier
-    more = allMoved (slice (i + 1) count cs) (rest (getD cs i y) (i + 1))
+    more = allMoved (slice (i + 1) count cs) (rest following (i + 1))
 
     abbrev there : Carrier
     there = moved (getD cs i y) (d .acceleration)
@@ -77,7 +81,7 @@ module _ (r : Row) (limit end count : ℕ) (cs : List Carrier) (ws : List Wish) 
     module _ (inside-range : d .outside ≡ false) (word₁ : ℕ) (w : word₁ ≡ word + bit (d .replaced) * 2 ^ i) where
       on : (next₁ : List Carrier) (left₁ : ℕ) → length next₁ ≡ 64 → left₁ ≤ i + 1
           → remaining end (allMoved (take count cs) all) ≡ take left₁ next₁ ++ remaining end more
-          → Driving next₁ left₁ word₁ (getD cs i y) (i + 1)
+          → Driving next₁ left₁ word₁ following (i + 1)
       unfolding anyOutside
       on next₁ left₁ long few kept =
           record {
@@ -87,12 +91,12 @@ module _ (r : Row) (limit end count : ℕ) (cs : List Carrier) (ws : List Wish) 
             many = length-append (m .flags) (d .replaced ∷ []) ∙ omega (arith, m .many);
             bits = w ∙ sym (word-snoc (m .flags) (d .replaced) ∙ rw (m .many, ← m .bits) refl);
             marks = m .marks ∙ ap (λ (t : List Drive). m .flags ++ replacedIn t) step
-                ∙ sym (append-assoc (m .flags) (d .replaced ∷ []) (replacedIn (rest (getD cs i y) (i + 1))));
+                ∙ sym (append-assoc (m .flags) (d .replaced ∷ []) (replacedIn (rest following (i + 1))));
             inside = m .inside ∙ rw (step, inside-range) refl;
             kept = kept;
           }
 
-      pub driving-stays : there .position < end → Driving (set next left there) (left + 1) word₁ (getD cs i y) (i + 1)
+      pub driving-stays : there .position < end → Driving (set next left there) (left + 1) word₁ following (i + 1)
       unfolding remaining
       driving-stays p =
           let few : left ≤ i = m .few in
@@ -103,7 +107,7 @@ module _ (r : Row) (limit end count : ℕ) (cs : List Carrier) (ws : List Wish) 
           on (set next left there) (left + 1) (length-set next left there ∙ long) (omega arith)
           (moved-on ∙ rw (taken, lt-ltb (there .position) end p) (sym (append-assoc (take left next) (there ∷ []) (remaining end more))))
 
-      pub driving-gone : end ≤ there .position → Driving next left word₁ (getD cs i y) (i + 1)
+      pub driving-gone : end ≤ there .position → Driving next left word₁ following (i + 1)
       unfolding remaining
       driving-gone p = on next left (m .long) (omega (arith, m .few)) (moved-on ∙ rw (le-ltb (there .position) end p) refl)
 

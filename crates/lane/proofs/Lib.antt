@@ -1,15 +1,28 @@
--- The laws of the lane: places and lists, rules, motion, the answers of the calls, and the marked cases.
+-- `History` is the theorem over every list of calls. Before it stand the laws behind it and behind the functions: lists and places, the
+-- rules of a lane, one carrier in a cycle and all of them, the answers of the calls, the marked cases, what a call keeps, the road book.
 mod Lists
 mod Shift
+mod Tests
+mod Passed
 mod Search
 mod Scans
 mod Surfaces
-mod Tests
 mod Words
 mod Soundness
 mod Gaps
 mod Checks
 mod Drives
 mod Cycles
+mod Entering
 mod Answers
+mod Texts
 mod Cases
+mod Leaving
+mod Order
+mod Turns
+mod Moving
+mod Keeps
+mod Books
+mod CycleRuns
+mod Agreement
+pub mod History

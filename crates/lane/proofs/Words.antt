@@ -38,10 +38,10 @@ bit-set word i h k =
     rw (small, or-shifted-r 1 i word k) (omega arith)
 
 -- the lowest bit, and the rest
-low : (t : Bool) (w : ℕ) → (bit t + 2 * w) % 2 ≡ bit t
+pub low : (t : Bool) (w : ℕ) → (bit t + 2 * w) % 2 ≡ bit t
 low t w = ap (λ (n : ℕ). n % 2) (omega arith) ∙ digits-mod w (bit-lt t)
 
-rest : (t : Bool) (w : ℕ) → (bit t + 2 * w) / 2 ≡ w
+pub rest : (t : Bool) (w : ℕ) → (bit t + 2 * w) / 2 ≡ w
 rest t w = ap (λ (n : ℕ). n / 2) (omega arith) ∙ digits-div w (bit-lt t)
 
 -- bit i of the word is flag i; past the flags no bit is set

@@ -3,3 +3,7 @@ pub mod State
 pub mod Safety
 pub mod Wishes
 pub mod Calls
+pub mod Listing
+pub mod Book
+pub mod Claims
+pub mod History

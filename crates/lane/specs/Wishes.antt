@@ -49,17 +49,18 @@ drive r limit ahead c w =
       acceleration = cond stays (trimmedWish r limit c w) (braking (r .guaranteed) (c .speed));
     }
 
+-- "One cycle with a: the speed becomes v + a, the position p + 2v + a."
+unfoldable pub moved : Carrier → ℤ → Carrier
+moved c a =
+    record { number = c .number; position = positionAfter (c .position) (c .speed) a; speed = speedAfter (c .speed) a }
+
 -- what each carrier does, front to back, the first of the list behind `ahead`: the carrier ahead is as at the cycle's start
 unfoldable pub drives : Row → (limit : ℕ) → Ahead → List Carrier → List Wish → List Drive
 drives r limit ahead [] ws = []
 drives r limit ahead (c ∷ cs) [] = []
 drives r limit ahead (c ∷ cs) (w ∷ ws) = drive r limit ahead c w ∷ drives r limit (leader c) cs ws
 
--- "One cycle with a: the speed becomes v + a, the position p + 2v + a."
-unfoldable pub moved : Carrier → ℤ → Carrier
-moved c a =
-    record { number = c .number; position = positionAfter (c .position) (c .speed) a; speed = speedAfter (c .speed) a }
-
+-- all carriers after the cycle
 unfoldable pub allMoved : List Carrier → List Drive → List Carrier
 allMoved [] ds = []
 allMoved (c ∷ cs) [] = []

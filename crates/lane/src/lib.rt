@@ -5,8 +5,10 @@ ghost use mathlib.Core.Bool.{false};
 ghost use lib.ListN.{replicate};
 ghost use Prim.Native.Nat.{_<_};
 ghost use Rattle.lane.specs.State.{stateOf};
+ghost use Rattle.lane.specs.Listing.{textNo, textLength, textBytes};
 ghost use Rattle.lane.specs.Calls.{carrier, none, startNo, startState, enterNo, enterPlace, enterState, namedNo, leaveState, readReading, cycleNo, cycleWord, cycleReplaced, cycleGone, cycleState};
 
+mod listing;
 mod motion;
 mod places;
 mod rows;
@@ -64,6 +66,11 @@ pub struct Cycled {
     pub replaced: u32,
     pub gone: u32,
     pub lane: Lane,
+}
+
+pub struct Listed {
+    pub no: u32,
+    pub length: usize,
 }
 
 pub struct ReadOut {
@@ -181,6 +188,25 @@ pub fn read(l: Lane, number: u16) -> ReadOut
         no: 0,
         reading: wish::reading_of(c.position, c.speed),
     }
+}
+
+// The lane text into a lent buffer, and its length.
+pub fn lane_text(l: Lane, out: &mut [u8]) -> Listed
+    ensures number { λ r. ⌜ r .no ≡ textNo (stateOf l) (now (out .entry)) ⌝ }
+    ensures length { λ r. ⌜ r .length ≡ textLength (stateOf l) (now (out .entry)) ⌝ }
+    ensures bytes { λ r. ⌜ now (out .exit) ≡ textBytes (stateOf l) (now (out .entry)) ⌝ }
+{
+    if rules::breaks_rule(l) {
+        return Listed { no: 21, length: 0 };
+    }
+    let count = l.count;
+    let carriers = l.carriers;
+    let length = listing::text_length(carriers, count);
+    if out.len() < length {
+        return Listed { no: 9, length: 0 };
+    }
+    listing::put_text(out, carriers, count);
+    Listed { no: 0, length }
 }
 
 // One cycle. The first `count` wishes are looked at.

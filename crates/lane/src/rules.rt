@@ -116,7 +116,7 @@ fn all_safe(carriers: [Carrier; 64], count: usize, row: Row) -> bool
 }
 
 // Check 21.
-fn breaks_rule(l: Lane) -> bool
+pub(crate) fn breaks_rule(l: Lane) -> bool
     ensures { λ r. ⌜ r ≡ broken (stateOf l) ⌝ }
 {
     if !l.started {

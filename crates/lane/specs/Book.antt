@@ -1,0 +1,97 @@
+-- Document 01, "The road book": "It says where carriers that drive as told are." It has a walk, a trimming and a motion of its own.
+use Prim.Native.Nat.{ℕ, _/_, _%_}
+use mathlib.Core.Bool.{Bool, cond}
+use mathlib.Core.List.{List, [], _∷_}
+use lib.Dec.{eqb, leb, ltb}
+use lib.IntN.{ℤ, pos}
+use Rattle.headway.specs.Motion.{speedAfter, positionAfter}
+use Rattle.headway.specs.Stopping.{braking}
+use Rattle.wish.specs.Units.{unitsOf}
+use Rattle.wish.specs.Trimming.{trimmedTo}
+use Rattle.wish.specs.declared.Converted.{Converted}
+use Rattle.wish.specs.declared.Converted.the-variants.{Units, Outside}
+use Rattle.wish.specs.declared.Wish.{Wish}
+use Rattle.lane.specs.declared.Carrier.{Carrier}
+use Rattle.lane.specs.declared.Lane.{Lane}
+use Rattle.lane.specs.Surface.{rowOf}
+
+-- a call with its arguments, but for the lane; of the lane text, the bytes of the lent buffer before the call
+pub data Call : Type 0 where
+  start-call : (surface end limit cycle : ℕ) → Call
+  enter-call : (number position speed : ℕ) → Call
+  leave-call : (number : ℕ) → Call
+  cycle-call : (count : ℕ) → (wishes : List Wish) → Call
+  read-call : (number : ℕ) → Call
+  text-call : (buffer : List ℕ) → Call
+
+-- "It is fed with each call with its arguments and, of the answers, only whether the call was refused and a cycle's word."
+pub record Seen : Type 0 where
+  pub call : Call
+  pub refused : Bool
+  pub word : ℕ
+
+-- "It holds surface, end, limit and the carriers front to back, each with number, position and speed."
+pub record Book : Type 0 where
+  pub surface : ℕ
+  pub end : ℕ
+  pub limit : ℕ
+  pub carriers : List Carrier
+
+-- "It begins with no carrier and with the surface, end and limit of the empty lane first handed in."
+abbrev pub begun : Lane → Book
+begun l = record { surface = l .surface; end = l .end; limit = l .limit; carriers = [] }
+
+abbrev pub holding : Book → List Carrier → Book
+holding b cs = record { surface = b .surface; end = b .end; limit = b .limit; carriers = cs }
+
+-- "Enter: the carrier goes in as given, where the walk over the book ends."
+unfoldable pub putIn : Carrier → List Carrier → List Carrier
+putIn c [] = c ∷ []
+putIn c (d ∷ ds) = cond (ltb (d .position) (c .position)) (c ∷ d ∷ ds) (d ∷ putIn c ds)
+
+-- "Leave: the carrier named comes out."
+unfoldable pub takeOut : (number : ℕ) → List Carrier → List Carrier
+takeOut number [] = []
+takeOut number (c ∷ cs) = cond (eqb (c .number) number) cs (c ∷ takeOut number cs)
+
+-- "made into units"; a cycle with a float outside its range is refused, so none is driven
+abbrev pub unitsFrom : Converted → ℤ
+unitsFrom (Units z) = z
+unitsFrom Outside = pos 0
+
+-- "wish i, made into units and trimmed with the book's figures"
+unfoldable pub trimmedIn : Book → Carrier → Wish → ℤ
+trimmedIn b c w =
+    trimmedTo (unitsFrom (unitsOf w (c .speed))) (c .speed) (rowOf (b .surface) .hardest) (rowOf (b .surface) .most) (b .limit)
+
+-- "or −(smaller of b and v) where bit i is set": the accelerations of the carriers, front to back; place 0 has the lowest bit
+unfoldable pub drivenIn : Book → (word : ℕ) → List Carrier → List Wish → List ℤ
+drivenIn b word [] ws = []
+drivenIn b word (c ∷ cs) [] = []
+drivenIn b word (c ∷ cs) (w ∷ ws) =
+    cond (eqb (word % 2) 1) (braking (rowOf (b .surface) .guaranteed) (c .speed)) (trimmedIn b c w)
+    ∷ drivenIn b (word / 2) cs ws
+
+-- "Cycle: carrier i drives"; "After the whole cycle, whoever is at or past the end comes out."
+unfoldable pub drivenOn : (end : ℕ) → List Carrier → List ℤ → List Carrier
+drivenOn end [] ds = []
+drivenOn end (c ∷ cs) [] = []
+drivenOn end (c ∷ cs) (d ∷ ds) =
+    let position = positionAfter (c .position) (c .speed) d in
+    cond (leb end position) (drivenOn end cs ds)
+    (record { number = c .number; position = position; speed = speedAfter (c .speed) d } ∷ drivenOn end cs ds)
+
+-- the step of a call that is not refused; "Start: it takes surface, end and limit and drops all carriers."
+unfoldable pub taken : Call → (word : ℕ) → Book → Book
+taken (start-call surface end limit cycle) word b = record { surface = surface; end = end; limit = limit; carriers = [] }
+taken (enter-call number position speed) word b =
+    holding b (putIn (record { number = number; position = position; speed = speed }) (b .carriers))
+taken (leave-call number) word b = holding b (takeOut number (b .carriers))
+taken (cycle-call count wishes) word b =
+    holding b (drivenOn (b .end) (b .carriers) (drivenIn b word (b .carriers) wishes))
+taken (read-call number) word b = b
+taken (text-call buffer) word b = b
+
+-- "Read, lane text and every refused call: nothing changes."
+abbrev pub booked : Seen → Book → Book
+booked s b = cond (s .refused) b (taken (s .call) (s .word) b)

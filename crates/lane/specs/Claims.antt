@@ -1,0 +1,73 @@
+-- Demand 3, over the road book: what holds after each call of a history, and in each cycle run.
+use Prim.Native.Nat.{ℕ, _-_, _/_, _%_, _^_, _≤_, _<_}
+use mathlib.Core.Path.{_≡_}
+use mathlib.Core.Bool.{Bool, true, false, not, _&&_}
+use mathlib.Core.List.{List}
+use lib.Dec.{eqb, ltb}
+use lib.IntN.{ℤ, pos}
+use lib.ListN.{length, getD}
+use lib.Signed.{_<ℤ_}
+use Rattle.headway.specs.Motion.{positionAt}
+use Rattle.headway.specs.Wishes.{restsBehind}
+use Rattle.wish.specs.declared.Wish.{Wish}
+use Rattle.wish.specs.declared.Wish.the-variants.{Hold}
+use Rattle.lane.specs.declared.Carrier.{Carrier}
+use Rattle.lane.specs.declared.Lane.{Lane}
+use Rattle.lane.specs.Surface.{rowOf}
+use Rattle.lane.specs.State.{stateOf}
+use Rattle.lane.specs.Calls.{none}
+use Rattle.lane.specs.Book.{Call, start-call, enter-call, leave-call, cycle-call, read-call, text-call, Seen, Book, trimmedIn, drivenIn, booked}
+
+-- the carrier at a place: "Ahead means nearer the book's front; next ahead, the place just before."
+abbrev pub carrierAt : Book → ℕ → Carrier
+carrierAt b i = getD (b .carriers) i none
+
+-- "in the book each carrier is below every one ahead after each call"
+abbrev pub InOrder : Book → Type 0
+InOrder b = (i j : ℕ) → i < j → j < length (b .carriers) → carrierAt b j .position < carrierAt b i .position
+
+-- n² times the position of the carrier at place i after k/n of the cycle: "At k/n it is where Units puts it."
+abbrev pub placeAt : Book → (word : ℕ) → List Wish → (n k i : ℕ) → ℤ
+placeAt b word ws n k i =
+    positionAt n k (carrierAt b i .position) (carrierAt b i .speed) (getD (drivenIn b word (b .carriers) ws) i (pos 0))
+
+-- "and at every fraction k/n of every cycle run"; "The fractions of a cycle take in those carriers that are gone after it, up to k = n."
+abbrev pub NeverTouching : Book → (word : ℕ) → List Wish → Type 0
+NeverTouching b word ws =
+    (n k i j : ℕ) → 1 ≤ n → k ≤ n → i < j → j < length (b .carriers) → placeAt b word ws n k j <ℤ placeAt b word ws n k i
+
+-- "Resting level or crossed means, with w the trimmed wish and S the sum of the positions gained until rest, that
+-- p + 2v + w + S(b, v + w) isn't below p of the carrier next ahead + S(B, its v), with p and v as in the book at that cycle's start."
+-- A carrier with none ahead, and a place with no carrier, has no such case.
+unfoldable pub restsLevelOrCrossed : Book → List Wish → ℕ → Bool
+restsLevelOrCrossed b ws i =
+    let c = carrierAt b i in
+    let ahead = carrierAt b (i - 1) in
+    ltb 0 i
+    && (ltb i (length (b .carriers))
+    && not (restsBehind (rowOf (b .surface) .guaranteed) (rowOf (b .surface) .hardest) (c .position) (c .speed) (trimmedIn b c (getD ws i Hold)) (ahead .position) (ahead .speed)))
+
+-- "Replaced means that the wish's bit is set."
+abbrev pub isReplaced : (word i : ℕ) → Bool
+isReplaced word i = eqb (word / 2 ^ i % 2) 1
+
+-- "a wish is replaced exactly when 01's 'resting level or crossed' holds"
+abbrev pub ReplacedWhenCrossing : Book → (word : ℕ) → List Wish → Type 0
+ReplacedWhenCrossing b word ws = (i : ℕ) → isReplaced word i ≡ restsLevelOrCrossed b ws i
+
+-- "A cycle run is one not refused." What is claimed of it, with the book as at its start
+abbrev pub CycleClaims : Call → (refused : Bool) → (word : ℕ) → Book → Type 0
+CycleClaims (start-call surface end limit cycle) refused word b = Unit {0}
+CycleClaims (enter-call number position speed) refused word b = Unit {0}
+CycleClaims (leave-call number) refused word b = Unit {0}
+CycleClaims (cycle-call count ws) true word b = Unit {0}
+CycleClaims (cycle-call count ws) false word b = NeverTouching b word ws × ReplacedWhenCrossing b word ws
+CycleClaims (read-call number) refused word b = Unit {0}
+CycleClaims (text-call buffer) refused word b = Unit {0}
+
+-- what is claimed of a call that left the lane `after`, with the book as it was before
+pub record Claims (after : Lane) (s : Seen) (b : Book) : Type 0 where
+  -- "the lane's carriers are those of 01's road book after each call"
+  pub carriers : stateOf after .carriers ≡ booked s b .carriers
+  pub order : InOrder (booked s b)
+  pub cycle-run : CycleClaims (s .call) (s .refused) (s .word) b

@@ -1,0 +1,49 @@
+-- Document 01, "Calls" and "Call texts": the lane text, "what `show` prints from `cars=` on".
+use Prim.Native.Nat.{ℕ}
+use mathlib.Core.Bool.{cond}
+use mathlib.Core.List.{List, [], _∷_, _++_}
+use lib.Dec.{ltb}
+use lib.ListN.{length, drop}
+use Rattle.text.specs.Numbers.{decimal}
+use Rattle.text.specs.Lines.{line}
+use Rattle.lane.specs.declared.Carrier.{Carrier}
+use Rattle.lane.specs.State.{State}
+use Rattle.lane.specs.Calls.{broken, ifAccepted}
+
+-- `cars=`, `car=`, `at=`, `speed=` in ASCII
+abbrev pub cars-key : List ℕ
+cars-key = 99 ∷ 97 ∷ 114 ∷ 115 ∷ 61 ∷ []
+
+abbrev pub car-key : List ℕ
+car-key = 99 ∷ 97 ∷ 114 ∷ 61 ∷ []
+
+abbrev pub at-key : List ℕ
+at-key = 97 ∷ 116 ∷ 61 ∷ []
+
+abbrev pub speed-key : List ℕ
+speed-key = 115 ∷ 112 ∷ 101 ∷ 101 ∷ 100 ∷ 61 ∷ []
+
+-- "then number, position, speed"
+unfoldable pub carrierText : Carrier → List ℕ
+carrierText c =
+    line car-key (decimal (c .number)) ++ (line at-key (decimal (c .position)) ++ line speed-key (decimal (c .speed)))
+
+-- "front to back"
+unfoldable pub carriersText : List Carrier → List ℕ
+carriersText [] = []
+carriersText (c ∷ cs) = carrierText c ++ carriersText cs
+
+unfoldable pub laneText : State → List ℕ
+laneText s = line cars-key (decimal (s .count)) ++ carriersText (s .carriers)
+
+-- "Lane text into a lent buffer: 21, 9."; "9 lane text longer than the buffer"
+unfoldable pub textNo : State → (buffer : List ℕ) → ℕ
+textNo s buffer = cond (broken s) 21 (cond (ltb (length buffer) (length (laneText s))) 9 0)
+
+-- "It gives the text's length;"
+unfoldable pub textLength : State → (buffer : List ℕ) → ℕ
+textLength s buffer = ifAccepted (textNo s buffer) (length (laneText s)) 0
+
+-- "bytes of the buffer after the text don't change."
+unfoldable pub textBytes : State → (buffer : List ℕ) → List ℕ
+textBytes s buffer = ifAccepted (textNo s buffer) (laneText s ++ drop (length (laneText s)) buffer) buffer

@@ -1,0 +1,36 @@
+-- `text::numbers::decimal_length` meets its contract: the digits counted, with those of what is left, are one more than the number's.
+use mathlib.Core.Path.{_≡_, ap}
+use Prim.Native.Nat.{_+_}
+use native.Mathlib.Omega.{arith}
+use lib.ListN.{length}
+use Rattle.text.specs.Numbers.{decimal}
+use Rattle.text.proofs.Digits.{decimal-small, longer}
+use Rattle.text.proofs.Laws.{decimal-not-empty, decimal-at-most}
+use Rattle.text.proofs.numbers.decimal_length.Statement.{statement}
+use Rattle.text.proofs.numbers.decimal_length.Tie as tie
+
+abbrev Inv-loop : tie.InvT-loop
+Inv-loop n count₀ rest₀ count rest = count + length (decimal rest) ≡ length (decimal n) + 1
+
+abbrev μ-loop : tie.MeasureT-loop
+μ-loop n count₀ rest₀ count rest = rest
+
+loop-holds : tie.Need-loop-holds Inv-loop μ-loop
+loop-holds c = omega arith
+
+add-count : tie.Need-add-count Inv-loop μ-loop
+add-count c =
+    omega (arith, decimal-not-empty (c .before .loop .rest), decimal-at-most 20 (c .before .before .args .n) (omega arith) (omega arith))
+
+loop-less : tie.Need-loop-less Inv-loop μ-loop
+loop-less c = omega arith
+
+loop-again : tie.Need-loop-again Inv-loop μ-loop
+loop-again c = omega (arith, longer (c .before .loop .rest) (c .loop-test .taken))
+
+returns : tie.Need-returns Inv-loop μ-loop
+returns c = omega (arith, ap length (decimal-small (c .before .loop .rest) (c .loop-test .left)))
+
+pub decimal-length-spec : {M : Type 1} → statement M
+decimal-length-spec =
+    tie.close (tie.spec Inv-loop μ-loop loop-holds add-count loop-less loop-again returns)
