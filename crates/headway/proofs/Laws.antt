@@ -14,7 +14,7 @@ use Rattle.headway.specs.Stopping.{braking, slowed, gained, stoppingDist
 use Rattle.headway.specs.Wishes.{restsBehind}
 use Rattle.headway.specs.Totals.{movedOf, safeOf, passesOf}
 use Rattle.headway.specs.declared.Moved.the-variants.{To}
-use Rattle.headway.proofs.Integers.{lt-pos, neg-le}
+use Rattle.headway.proofs.Integers.{pos-minus, lt-pos, neg-le}
 use Rattle.headway.proofs.Motion.{speed-is, position-is, trajectory-is, braked, driven, slower}
 use Rattle.headway.proofs.Signed.{is-speed, moved-is}
 use Rattle.headway.proofs.Totals.{two-rates}
@@ -22,6 +22,10 @@ use Rattle.headway.proofs.Stopping as S
 use Rattle.headway.proofs.Pair.{braking-gains, weighted, stops-apart, middle-apart, ends-apart}
 
 -- ---- one cycle
+
+-- a difference that is not negative is one of natural numbers
+pub difference : (x y : ℕ) → y ≤ x → pos x +ℤ negℤ (pos y) ≡ pos (x - y)
+difference = pos-minus
 
 -- "−c, or −v where v is below c"
 pub braking-is : (c v : ℕ) → braking c v ≡ negℤ (pos (min c v))

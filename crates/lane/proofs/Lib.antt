@@ -16,6 +16,7 @@ mod Cycles
 mod Entering
 mod Answers
 mod Texts
+pub mod Laws
 mod Cases
 mod Leaving
 mod Order

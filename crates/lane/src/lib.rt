@@ -2,7 +2,7 @@
 // `no` is 0 where a call is accepted, else the number of its refusal, with every value zero and the lane as it was handed in.
 ghost use mathlib.Core.Path.{_≡_};
 ghost use mathlib.Core.Bool.{false};
-ghost use lib.ListN.{replicate};
+ghost use lib.ListN.{length, replicate};
 ghost use Prim.Native.Nat.{_<_};
 ghost use Rattle.lane.specs.State.{stateOf};
 ghost use Rattle.lane.specs.Listing.{textNo, textLength, textBytes};
@@ -17,6 +17,7 @@ mod rules;
 use wish::Reading;
 use wish::Wish;
 
+#[repr(C)]
 pub struct Carrier {
     pub number: u16,
     pub position: u32,
@@ -24,6 +25,7 @@ pub struct Carrier {
 }
 
 // The first `count` records are the carriers, front to back.
+#[repr(C)]
 pub struct Lane {
     pub started: bool,
     pub surface: u32,
@@ -49,17 +51,20 @@ pub struct Drive {
 }
 
 // What start and leave answer.
+#[repr(C)]
 pub struct Changed {
     pub no: u32,
     pub lane: Lane,
 }
 
+#[repr(C)]
 pub struct Entered {
     pub no: u32,
     pub place: usize,
     pub lane: Lane,
 }
 
+#[repr(C)]
 pub struct Cycled {
     pub no: u32,
     pub word: u64,
@@ -68,11 +73,13 @@ pub struct Cycled {
     pub lane: Lane,
 }
 
+#[repr(C)]
 pub struct Listed {
     pub no: u32,
     pub length: usize,
 }
 
+#[repr(C)]
 pub struct ReadOut {
     pub no: u32,
     pub reading: Reading,
@@ -190,11 +197,12 @@ pub fn read(l: Lane, number: u16) -> ReadOut
     }
 }
 
-// The lane text into a lent buffer, and its length.
+// The lane text into a lent buffer, and its length. A buffer of 2,635 bytes holds every text.
 pub fn lane_text(l: Lane, out: &mut [u8]) -> Listed
     ensures number { λ r. ⌜ r .no ≡ textNo (stateOf l) (now (out .entry)) ⌝ }
     ensures length { λ r. ⌜ r .length ≡ textLength (stateOf l) (now (out .entry)) ⌝ }
     ensures bytes { λ r. ⌜ now (out .exit) ≡ textBytes (stateOf l) (now (out .entry)) ⌝ }
+    ensures room { λ r. ⌜ (r .no ≡ 9 → length (now (out .entry)) < 2635) ⌝ }
 {
     if rules::breaks_rule(l) {
         return Listed { no: 21, length: 0 };

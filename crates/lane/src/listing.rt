@@ -21,7 +21,7 @@ fn carrier_length(c: Carrier) -> usize
 // How long the text is.
 pub(crate) fn text_length(carriers: [Carrier; 64], count: usize) -> usize
     requires { ⌜ count ≤ 64 ⌝ }
-    ensures { λ r. ⌜ r ≡ length (line cars-key (decimal count) ++ carriersText (take count carriers)) ⌝ }
+    ensures { λ r. ⌜ (r ≡ length (line cars-key (decimal count) ++ carriersText (take count carriers))) × (r ≤ 2635) ⌝ }
 {
     let mut n: usize = 6 + text::decimal_length(count as u64);
     let mut i: usize = 0;

@@ -1,4 +1,4 @@
--- The laws of numbers, lines and writes: all that the crates above use of `specs/`, whose definitions they leave shut.
+-- The laws of numbers, lines and writes: all that the crates above use of `specs/Numbers` and `specs/Lines`, whose definitions they leave shut.
 use mathlib.Core.Path.{_≡_, refl, sym, ap, _∙_}
 use mathlib.Core.Bool.{Bool, true, false, cond}
 use mathlib.Core.List.{List, [], _∷_, _++_, append-assoc, append-nil}

@@ -1,9 +1,21 @@
-// A number's digits.
+// A number's digits, put and read.
 ghost use mathlib.Core.Path.{_≡_};
 ghost use Prim.Native.Nat.{_+_, _≤_, _<_};
+ghost use lib.Ieee.{binary32, ofBits};
 ghost use lib.ListN.{length};
 ghost use Rattle.text.specs.Numbers.{digit as digitOf, digits, decimal};
 ghost use Rattle.text.specs.Lines.{written};
+ghost use Rattle.text.specs.Fields.{digitIn, numberIn, signedIn, bitsIn, withinIn};
+
+pub enum Number {
+    Is(u64),
+    Malformed,
+}
+
+pub enum Signed {
+    Is(i16),
+    Malformed,
+}
 
 // How many decimal digits n takes.
 pub fn decimal_length(n: u64) -> usize
@@ -42,5 +54,101 @@ pub(crate) fn put_digits(out: &mut [u8], at: usize, base: u64, count: usize, n: 
         left -= 1;
         out[at + left] = digit(rest % base);
         rest /= base;
+    }
+}
+
+// The number of a digit, 16 for a byte that is none.
+fn digit_in(byte: u8) -> u64
+    ensures { λ r. ⌜ r ≡ digitIn byte ⌝ }
+{
+    match byte {
+        b'0'..=b'9' => (byte - b'0') as u64,
+        b'A'..=b'F' => (byte - b'A' + 10) as u64,
+        _ => 16,
+    }
+}
+
+// The number of digits of a base, where it is at most `most`. What has been read never passes it, so nothing overflows.
+fn read_digits(digits: &[u8], base: u64, most: u64) -> Number
+    requires { ⌜ (0 < base) × (base ≤ 16) ⌝ }
+    ensures { λ r. ⌜ r ≡ withinIn base most 0 (now (digits .entry)) ⌝ }
+{
+    let mut value: u64 = 0;
+    let mut i = 0;
+    while i < digits.len() {
+        let digit = digit_in(digits[i]);
+        if digit >= base {
+            return Number::Malformed;
+        }
+        if most < digit {
+            return Number::Malformed;
+        }
+        if (most - digit) / base < value {
+            return Number::Malformed;
+        }
+        value = value * base + digit;
+        i += 1;
+    }
+    Number::Is(value)
+}
+
+// The decimal number of a field that holds at most `most`.
+pub fn read_number(digits: &[u8], most: u64) -> Number
+    ensures { λ r. ⌜ r ≡ numberIn most (now (digits .entry)) ⌝ }
+{
+    if digits.len() == 0 {
+        return Number::Malformed;
+    }
+    if digits.len() > 1 {
+        if digits[0] == b'0' {
+            return Number::Malformed;
+        }
+    }
+    read_digits(digits, 10, most)
+}
+
+// After a minus 32768 is a number too, and takes more than 16 bits until the sign is on.
+pub fn read_signed(digits: &[u8]) -> Signed
+    ensures { λ r. ⌜ r ≡ signedIn (now (digits .entry)) ⌝ }
+{
+    if digits.len() == 0 {
+        return Signed::Malformed;
+    }
+    if digits[0] == b'-' {
+        match read_number(&digits[1..], 32768) {
+            Number::Is(size) => {
+                if size == 0 {
+                    return Signed::Malformed;
+                }
+                Signed::Is((0 - size as i32) as i16)
+            }
+            Number::Malformed => Signed::Malformed,
+        }
+    } else {
+        match read_number(digits, 32767) {
+            Number::Is(size) => Signed::Is(size as i16),
+            Number::Malformed => Signed::Malformed,
+        }
+    }
+}
+
+// A float's bits. Eight digits are below 2 ^ 32, so the bound refuses none.
+pub fn read_bits(digits: &[u8]) -> Number
+    ensures { λ r. ⌜ r ≡ bitsIn (now (digits .entry)) ⌝ }
+{
+    if digits.len() != 8 {
+        return Number::Malformed;
+    }
+    read_digits(digits, 16, 0xFFFF_FFFF)
+}
+
+// The float of a bit pattern. `f32::from_bits` leaves a NaN's patterns open, so they are told apart first.
+pub fn float_of(bits: u32) -> f32
+    ensures { λ r. ⌜ r ≡ ofBits binary32 bits ⌝ }
+{
+    if bits % 0x8000_0000 > 0x7F80_0000 {
+        0.0 / 0.0
+    } else {
+        f32::from_bits(bits)
     }
 }

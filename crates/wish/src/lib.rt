@@ -25,6 +25,7 @@ pub enum Converted {
 }
 
 // Position in metres and speed in m/s.
+#[repr(C)]
 pub struct Reading {
     pub position: f64,
     pub speed: f64,

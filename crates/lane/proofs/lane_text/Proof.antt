@@ -24,7 +24,8 @@ breaks-rule-requires c κs = search needs
 returns : tie.Need-returns
 returns c =
     let a = c .before .before .before .args in
-    text-broken (stateOf (a .l)) (a .out .now) (sym (c .before .breaks-rule .ensures) ∙ c .if1 .taken)
+    let t = text-broken (stateOf (a .l)) (a .out .now) (sym (c .before .breaks-rule .ensures) ∙ c .if1 .taken) in
+    (t .0, (t .1 .0, (t .1 .1, λ e. absurd (omega arith))))
 
 text-length-requires : tie.Need-text-length-requires
 text-length-requires c κs = few (c .before)
@@ -34,11 +35,12 @@ unfolding laneText
 returns-2 c =
     let passed = c .before .before .before in
     let a = passed .before .before .before .args in
-    text-too-long (stateOf (a .l)) (a .out .now) (unbroken passed) (c .before .text-length .ensures) (c .if2 .taken)
+    let t = text-too-long (stateOf (a .l)) (a .out .now) (unbroken passed) (c .before .text-length .ensures .0) (c .if2 .taken) in
+    (t .0, (t .1 .0, (t .1 .1, λ e. omega (arith, c .before .text-length .ensures .1, c .if2 .taken))))
 
 put-text-requires : tie.Need-put-text-requires
 put-text-requires c κs =
-    let long = c .before .before in (few (long .before .before), omega (arith, long .text-length .ensures))
+    let long = c .before .before in (few (long .before .before), omega (arith, long .text-length .ensures .0))
 
 same-length : tie.Need-same-length
 same-length c = search needs
@@ -50,7 +52,8 @@ returns-3 c =
     let fits = put .before .before in
     let passed = fits .before .before .before in
     let a = passed .before .before .before .args in
-    text-fits (stateOf (a .l)) (a .out .now) (unbroken passed) (fits .before .text-length .ensures) (fits .if2 .left) (put .put-text .ensures)
+    let t = text-fits (stateOf (a .l)) (a .out .now) (unbroken passed) (fits .before .text-length .ensures .0) (fits .if2 .left) (put .put-text .ensures) in
+    (t .0, (t .1 .0, (t .1 .1, λ e. absurd (omega arith))))
 
 pub lane-text-spec : {M : Type 1} → statement M
 lane-text-spec =

@@ -58,8 +58,10 @@ loop-again c =
 
 returns : tie.Need-returns Inv-loop μ-loop
 returns c =
-    let a = c .before .before .before .args in
-    rw (length-append, length-line) (omega (arith, ap length (carriers-past (a .t1) (c .before .loop .i) (a .count) (omega arith))))
+    let a = c .before .before .before .args in (
+      rw (length-append, length-line) (omega (arith, ap length (carriers-past (a .t1) (c .before .loop .i) (a .count) (omega arith)))),
+      omega arith,
+    )
 
 pub text-length-spec : {M : Type 1} → statement M
 text-length-spec =

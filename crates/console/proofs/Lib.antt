@@ -1,0 +1,7 @@
+-- `Run` is the theorem over the whole output. Before it stand the laws behind it and behind the functions: printing, reading, wishes, steps.
+mod Printing
+mod Showing
+mod Lines
+mod Wishing
+mod Steps
+pub mod Run

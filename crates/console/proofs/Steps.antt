@@ -1,0 +1,44 @@
+-- The three ways in which a step goes: the buffer is too short, the input ends, or there is a block.
+use mathlib.Core.Path.{_≡_, refl, sym}
+use mathlib.Core.Bool.{true}
+use mathlib.Core.List.{List}
+use Prim.Native.Nat.{ℕ, _≤_, _<_}
+use native.Mathlib.Nat.{add-zero}
+use native.Mathlib.Omega.{arith}
+use borrow.Author.Tests.{le-leb, lt-leb, eq-eqb, ne-eqb}
+use lib.ListN.{length}
+use Rattle.text.proofs.Laws.{written-nothing}
+use Rattle.lane.specs.declared.Lane.{Lane}
+use Rattle.lane.specs.State.{State, stateOf}
+use Rattle.console.specs.Blocks.{blockIn}
+use Rattle.console.specs.Program.{halted, ran, stepOf, stepInto, Gives}
+
+module _ (buffer : List ℕ) (s : State) (t : List ℕ) where
+  pub too-short : length buffer < 4096 → stepInto buffer s t ≡ halted s
+  unfolding stepInto
+  too-short h = rw (lt-leb 4096 (length buffer) h) refl
+
+  pub step-into : 4096 ≤ length buffer → stepInto buffer s t ≡ stepOf s t
+  unfolding stepInto
+  step-into h = rw (le-leb 4096 (length buffer) h) refl
+
+pub at-end : (s : State) (t : List ℕ) → length t ≡ 0 → stepOf s t ≡ halted s
+unfolding stepOf
+at-end s t e = rw (eq-eqb (length t) 0 e) refl
+
+pub at-block : (s : State) (t : List ℕ) → (length t ≡ 0 → ⊥) → stepOf s t ≡ ran s (blockIn t)
+unfolding stepOf
+at-block s t h = rw (ne-eqb (length t) 0 h) refl
+
+-- where nothing is done, nothing is put
+pub gives-halted : (l : Lane) (at : ℕ) (buffer : List ℕ)
+    → Gives (halted (stateOf l)) at buffer (record { lane = l; next = at; written = 0; stop = true }) buffer
+gives-halted l at buffer =
+    record {
+      state = refl;
+      next = sym (add-zero at);
+      written-length = refl;
+      room = omega arith;
+      bytes = sym (written-nothing 0 buffer);
+      stop = refl;
+    }

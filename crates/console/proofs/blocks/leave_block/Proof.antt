@@ -1,0 +1,76 @@
+-- `console::blocks::leave_block` meets its contract: a block whose one field is read is run, and any other is refused by 8.
+use borrow.Author.Needs.{needs}
+use mathlib.Core.List.{List}
+use Prim.Native.Nat.{ℕ}
+use native.Mathlib.Omega.{arith}
+use borrow.Author.Tests.{not-true, not-false}
+use lib.ListN.{drop}
+use Rattle.lane.specs.State.{stateOf}
+use Rattle.lane.specs.Listing.{car-key}
+use Rattle.console.specs.Blocks.{Parsed, afterLine, field, bits16, leave-block, leaveLines, parsed}
+use Rattle.console.proofs.Lines.{Reads, first-read, field-read, field-most, field-missing, all-read, read-as}
+use Rattle.console.proofs.blocks.leave_block.Statement.{statement}
+use Rattle.console.proofs.blocks.leave_block.Tie as tie
+
+abbrev start : tie.After-read-field → tie.Start
+start c = c .before .before .before .before
+
+abbrev car-on : ℕ → List ℕ → Parsed
+car-on car t = parsed (leave-block car) 0
+
+first : (c : tie.After-read-field) → let a = start c .args in
+    Reads (a .input .now) (a .at) (a .first) (afterLine (drop (a .at) (a .input .now)) leaveLines) (λ t. field car-key bits16 t car-on)
+unfolding leaveLines
+first c = let a = start c .args in first-read (a .input .now) (a .at) leaveLines (start c .pre .1)
+
+slice-aggregate-read-field : tie.Need-slice-aggregate-read-field
+slice-aggregate-read-field c = search needs
+
+read-field-requires : tie.Need-read-field-requires
+read-field-requires c κs = search needs
+
+refused-requires : tie.Need-refused-requires
+refused-requires c κs = search needs
+
+same-length : tie.Need-same-length
+same-length c = search needs
+
+returns : tie.Need-returns
+returns c =
+    let told = c .before .before in
+    let then = told .before .before in
+    let read = then .before .before in
+    read-as (stateOf (start read .args .l)) (field-missing _ _ _ (first read) (read .read-field .ensures) (not-true _ (then .if1 .taken))) (told .refused .ensures)
+
+cast-run-leave : tie.Need-cast-run-leave
+cast-run-leave c =
+    let read = c .before .before .before in
+    omega (arith, field-most _ _ _ (first read) (read .read-field .ensures))
+
+run-leave-requires : tie.Need-run-leave-requires
+run-leave-requires c κs = search needs
+
+same-length-2 : tie.Need-same-length-2
+same-length-2 c = search needs
+
+returns-2 : tie.Need-returns-2
+returns-2 c =
+    let run = c .before .before in
+    let else = run .before .before .before in
+    let read = else .before .before in
+    all-read (stateOf (start read .args .l)) (leave-block (read .read-field .result .value))
+    (field-read _ _ _ (first read) (read .read-field .ensures) (not-false _ (else .if1 .left))) (run .run-leave .ensures)
+
+pub leave-block-spec : {M : Type 1} → statement M
+leave-block-spec =
+    tie.close
+    (tie.spec
+    slice-aggregate-read-field
+    read-field-requires
+    refused-requires
+    same-length
+    returns
+    cast-run-leave
+    run-leave-requires
+    same-length-2
+    returns-2)

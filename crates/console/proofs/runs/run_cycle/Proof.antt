@@ -1,0 +1,122 @@
+-- `console::runs::run_cycle` meets its contract: a refused cycle prints its number, else the lines `ok=cycle`, `over=` and `gone=`.
+use borrow.Author.Needs.{needs}
+use mathlib.Core.Path.{_≡_, refl, _∙_}
+use mathlib.Core.List.{List, _++_}
+use Prim.Native.Nat.{ℕ, _≤_, _<_}
+use native.Mathlib.Omega.{arith}
+use lib.ListN.{length, take, length-append}
+use lib.Seq.{length-take-le}
+use Rattle.text.specs.Numbers.{decimal, hexadecimal}
+use Rattle.text.specs.Lines.{line}
+use Rattle.lane.specs.State.{State, stateOf}
+use Rattle.console.specs.Blocks.{Block, cycle-block}
+use Rattle.console.specs.Output.{ok-cycle, over-key, gone-key, answer, printed, stateAfter}
+use Rattle.console.proofs.Printing.{put-both, run-refused, run-accepted, cycled, length-cycled, cycle-printed, cycle-after}
+use Rattle.console.proofs.runs.run_cycle.Statement.{statement}
+use Rattle.console.proofs.runs.run_cycle.Tie as tie
+
+abbrev state : tie.After-cycle → State
+state c = stateOf (c .before .before .args .l)
+
+abbrev block : tie.After-cycle → Block
+block c = let a = c .before .before .args in cycle-block (take (a .count) (a .wishes))
+
+abbrev text : tie.After-cycle → List ℕ
+text c = cycled (c .cycle .result .word) (c .cycle .result .gone)
+
+counted : (s : tie.Start) → length (take (s .args .count) (s .args .wishes)) ≡ s .args .count
+counted s =
+    let long : length (s .args .wishes) ≡ 64 = search needs in
+    length-take-le (s .args .count) (s .args .wishes) (omega (arith, s .pre .1 .0))
+
+gone-fits : (c : tie.After-cycle) → c .cycle .result .gone < 18446744073709551616
+gone-fits c = omega arith
+
+prints : (c : tie.After-cycle) → printed (state c) (block c) ≡ answer (c .cycle .result .no) (text c)
+prints c =
+    let s = c .before .before in
+    cycle-printed (state c) (s .args .count) (s .args .wishes) (counted s) (s .pre .1 .1)
+    ∙ rw (← c .cycle .ensures .0, ← c .cycle .ensures .1 .0, ← c .cycle .ensures .1 .1 .1 .0) refl
+
+after : (c : tie.After-cycle) → stateOf (c .cycle .result .lane) ≡ stateAfter (state c) (block c)
+after c =
+    let s = c .before .before in
+    c .cycle .ensures .1 .1 .1 .1 .0 ∙ cycle-after (state c) (s .args .count) (s .args .wishes) (counted s) (s .pre .1 .1)
+
+cycle-requires : tie.Need-cycle-requires
+cycle-requires c κs = search needs
+
+refused-requires : tie.Need-refused-requires
+refused-requires c κs = search needs
+
+same-length : tie.Need-same-length
+same-length c = search needs
+
+returns : tie.Need-returns
+returns c =
+    let told = c .before .before in
+    let then = told .before .before in
+    let call = then .before .before .before in
+    run-refused (state call) (block call) (call .cycle .result .no) (text call) (prints call) (call .cycle .result .lane)
+    (after call) (then .if1 .taken) (told .refused .ensures)
+
+slice-aggregate-put-bytes : tie.Need-slice-aggregate-put-bytes
+slice-aggregate-put-bytes c = search needs
+
+put-bytes-requires : tie.Need-put-bytes-requires
+put-bytes-requires c κs = search needs
+
+slice-aggregate-put-hexadecimal-line : tie.Need-slice-aggregate-put-hexadecimal-line
+slice-aggregate-put-hexadecimal-line c = search needs
+
+put-hexadecimal-line-requires : tie.Need-put-hexadecimal-line-requires
+put-hexadecimal-line-requires c κs = search needs
+
+slice-aggregate-put-decimal-line : tie.Need-slice-aggregate-put-decimal-line
+slice-aggregate-put-decimal-line c = search needs
+
+cast-put-decimal-line : tie.Need-cast-put-decimal-line
+cast-put-decimal-line c = search needs
+
+put-decimal-line-requires : tie.Need-put-decimal-line-requires
+put-decimal-line-requires c κs = search needs
+
+same-length-2 : tie.Need-same-length-2
+same-length-2 c = search needs
+
+returns-2 : tie.Need-returns-2
+returns-2 c =
+    let third = c .before .before in
+    let second = third .before .before .before .before .before .before in
+    let first = second .before .before .before .before .before in
+    let else = first .before .before .before in
+    let call = else .before .before .before in
+    let a = call .before .before .args in
+    let over = line over-key (hexadecimal 16 (call .cycle .result .word)) in
+    let gone = line gone-key (decimal (call .cycle .result .gone)) in
+    let long = length-cycled (call .cycle .result .word) (call .cycle .result .gone) (gone-fits call) in
+    let room : length (text call) ≤ length (a .out .now) = omega arith in
+    let shorter : length (ok-cycle ++ over) ≤ length (a .out .now) = omega (arith, length-append (ok-cycle ++ over) gone) in
+    run-accepted (state call) (block call) (call .cycle .result .no) (text call) (prints call) (call .cycle .result .lane)
+    (after call) (else .if1 .left) (a .next) room
+    (put-both (ok-cycle ++ over) gone (a .out .now) room
+    (put-both ok-cycle over (a .out .now) shorter (first .put-bytes .ensures) (second .put-hexadecimal-line .ensures))
+    (third .put-decimal-line .ensures))
+
+pub run-cycle-spec : {M : Type 1} → statement M
+run-cycle-spec =
+    tie.close
+    (tie.spec
+    cycle-requires
+    refused-requires
+    same-length
+    returns
+    slice-aggregate-put-bytes
+    put-bytes-requires
+    slice-aggregate-put-hexadecimal-line
+    put-hexadecimal-line-requires
+    slice-aggregate-put-decimal-line
+    cast-put-decimal-line
+    put-decimal-line-requires
+    same-length-2
+    returns-2)

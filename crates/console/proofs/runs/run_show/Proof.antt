@@ -1,0 +1,107 @@
+-- `console::runs::run_show` meets its contract: a broken lane prints 21, else `ok=show` stands before the lane text.
+use borrow.Author.Needs.{needs}
+use mathlib.Core.Path.{_≡_, refl, ap, sym}
+use mathlib.Core.List.{_++_}
+use Prim.Native.Nat.{ℕ}
+use native.Mathlib.Omega.{arith}
+use Rattle.lane.specs.State.{State, stateOf}
+use Rattle.lane.specs.Listing.{laneText}
+use Rattle.console.specs.Blocks.{show-block}
+use Rattle.console.specs.Output.{ok-show, answer, printed, stateAfter}
+use Rattle.console.proofs.Printing.{gives-into, run-refused, run-accepted}
+use Rattle.console.proofs.Showing.{show-number, show-refused, fits, show-length, show-room, show-place, show-put}
+use Rattle.console.proofs.runs.run_show.Statement.{statement}
+use Rattle.console.proofs.runs.run_show.Tie as tie
+
+abbrev start : tie.After-lane-text → tie.Start
+start c = c .before .before .before
+
+abbrev state : tie.After-lane-text → State
+state c = stateOf (start c .args .l)
+
+prints : (c : tie.After-lane-text) → printed (state c) show-block ≡ answer (c .lane-text .result .no) (ok-show ++ laneText (state c))
+unfolding printed
+prints c =
+    let e = c .lane-text .ensures in
+    ap (λ (n : ℕ). answer n (ok-show ++ laneText (state c)))
+    (sym (show-number (state c) (start c .args .out .now) (start c .pre) _ (e .0) (e .1 .1 .1)))
+
+sub-lane-text : tie.Need-sub-lane-text
+sub-lane-text c = search needs
+
+part-lane-text-start : tie.Need-part-lane-text-start
+part-lane-text-start c = search needs
+
+part-lane-text-end : tie.Need-part-lane-text-end
+part-lane-text-end c = search needs
+
+lane-text-requires : tie.Need-lane-text-requires
+lane-text-requires c κs = search needs
+
+refused-requires : tie.Need-refused-requires
+refused-requires c κs = search needs
+
+same-length : tie.Need-same-length
+same-length c = search needs
+
+returns : tie.Need-returns
+unfolding stateAfter
+returns c =
+    let told = c .before .before in
+    let then = told .before .before in
+    let call = then .before .before .before .before in
+    let s = start call in
+    run-refused (state call) show-block (call .lane-text .result .no) (ok-show ++ laneText (state call)) (prints call) (s .args .l) refl (then .if1 .taken)
+    (gives-into (show-refused (state call) (s .args .out .now) (s .pre) _ (call .lane-text .ensures .0) (then .if1 .taken) (call .lane-text .ensures .1 .1 .0)) (told .refused .ensures))
+
+slice-aggregate-put-bytes : tie.Need-slice-aggregate-put-bytes
+slice-aggregate-put-bytes c = search needs
+
+put-bytes-requires : tie.Need-put-bytes-requires
+put-bytes-requires c κs = search needs
+
+add-t8 : tie.Need-add-t8
+add-t8 c =
+    let put = c .before .before .before in
+    let else = put .before .before .before in
+    let call = else .before .before .before .before in
+    let s = start call in
+    let e = call .lane-text .ensures in
+    omega (
+      arith,
+      show-place (state call) (s .args .out .now) (s .pre) _ (e .0) (else .if1 .left) (e .1 .1 .0) (put .put-bytes .ensures .1),
+      show-length (state call) (s .args .out .now) (s .pre) _ (e .0) (else .if1 .left) (e .1 .0),
+      fits (state call) (s .args .out .now) (s .pre) _ (e .0) (else .if1 .left),
+    )
+
+same-length-2 : tie.Need-same-length-2
+same-length-2 c = search needs
+
+returns-2 : tie.Need-returns-2
+unfolding stateAfter
+returns-2 c =
+    let put = c .before .before .before in
+    let else = put .before .before .before in
+    let call = else .before .before .before .before in
+    let s = start call in
+    let e = call .lane-text .ensures in
+    run-accepted (state call) show-block (call .lane-text .result .no) (ok-show ++ laneText (state call)) (prints call) (s .args .l) refl (else .if1 .left) (s .args .next)
+    (show-room (state call) (s .args .out .now) (s .pre) _ (e .0) (else .if1 .left))
+    (show-put (state call) (s .args .out .now) (s .pre) _ (e .0) (else .if1 .left) (e .1 .1 .0) (e .1 .0) (put .put-bytes .ensures))
+
+pub run-show-spec : {M : Type 1} → statement M
+run-show-spec =
+    tie.close
+    (tie.spec
+    sub-lane-text
+    part-lane-text-start
+    part-lane-text-end
+    lane-text-requires
+    refused-requires
+    same-length
+    returns
+    slice-aggregate-put-bytes
+    put-bytes-requires
+    add-t8
+    same-length-2
+    returns-2)

@@ -1,0 +1,173 @@
+-- Document 01, "Call texts": the blocks that the program reads.
+use Prim.Native.Nat.{ℕ, zero, suc, _+_}
+use mathlib.Core.Bool.{Bool, true, false, _&&_, cond}
+use mathlib.Core.List.{List, [], _∷_, _++_}
+use lib.Dec.{eqb}
+use lib.Ieee.{Float, binary32, ofBits}
+use lib.ListN.{length, drop}
+use Rattle.text.specs.declared.numbers.Number.{Number}
+use Rattle.text.specs.declared.numbers.Number.the-variants as number
+use Rattle.text.specs.declared.numbers.Signed.{Signed}
+use Rattle.text.specs.declared.numbers.Signed.the-variants as signed
+use Rattle.text.specs.Fields.{lineLength, hasLine, lineValue, fieldIn, isNumber, valueIn, signedIn, bitsIn}
+use Rattle.wish.specs.declared.Wish.{Wish}
+use Rattle.wish.specs.declared.Wish.the-variants.{Units, Acceleration, TargetSpeed, Hold}
+use Rattle.console.specs.declared.reading.Want.{Want}
+use Rattle.console.specs.declared.reading.Want.the-variants.{Wanted, Nothing}
+use Rattle.lane.specs.Listing.{cars-key, car-key, at-key, speed-key}
+
+-- ---- "Keys:", in ASCII
+
+-- `call=start`, `surface=`, `end=`, `limit=`, `cycle=`
+abbrev pub call-start : List ℕ
+call-start = 99 ∷ 97 ∷ 108 ∷ 108 ∷ 61 ∷ 115 ∷ 116 ∷ 97 ∷ 114 ∷ 116 ∷ []
+
+abbrev pub surface-key : List ℕ
+surface-key = 115 ∷ 117 ∷ 114 ∷ 102 ∷ 97 ∷ 99 ∷ 101 ∷ 61 ∷ []
+
+abbrev pub end-key : List ℕ
+end-key = 101 ∷ 110 ∷ 100 ∷ 61 ∷ []
+
+abbrev pub limit-key : List ℕ
+limit-key = 108 ∷ 105 ∷ 109 ∷ 105 ∷ 116 ∷ 61 ∷ []
+
+abbrev pub cycle-key : List ℕ
+cycle-key = 99 ∷ 121 ∷ 99 ∷ 108 ∷ 101 ∷ 61 ∷ []
+
+-- `call=enter`, `call=leave`, `call=cycle`, `call=show`; their other keys are those of the lane text
+abbrev pub call-enter : List ℕ
+call-enter = 99 ∷ 97 ∷ 108 ∷ 108 ∷ 61 ∷ 101 ∷ 110 ∷ 116 ∷ 101 ∷ 114 ∷ []
+
+abbrev pub call-leave : List ℕ
+call-leave = 99 ∷ 97 ∷ 108 ∷ 108 ∷ 61 ∷ 108 ∷ 101 ∷ 97 ∷ 118 ∷ 101 ∷ []
+
+abbrev pub call-cycle : List ℕ
+call-cycle = 99 ∷ 97 ∷ 108 ∷ 108 ∷ 61 ∷ 99 ∷ 121 ∷ 99 ∷ 108 ∷ 101 ∷ []
+
+abbrev pub call-show : List ℕ
+call-show = 99 ∷ 97 ∷ 108 ∷ 108 ∷ 61 ∷ 115 ∷ 104 ∷ 111 ∷ 119 ∷ []
+
+-- `want=`, `want=units:`, `want=accel:`, `want=speed:`, `want=hold`
+abbrev pub want-key : List ℕ
+want-key = 119 ∷ 97 ∷ 110 ∷ 116 ∷ 61 ∷ []
+
+abbrev pub want-units : List ℕ
+want-units = 119 ∷ 97 ∷ 110 ∷ 116 ∷ 61 ∷ 117 ∷ 110 ∷ 105 ∷ 116 ∷ 115 ∷ 58 ∷ []
+
+abbrev pub want-accel : List ℕ
+want-accel = 119 ∷ 97 ∷ 110 ∷ 116 ∷ 61 ∷ 97 ∷ 99 ∷ 99 ∷ 101 ∷ 108 ∷ 58 ∷ []
+
+abbrev pub want-speed : List ℕ
+want-speed = 119 ∷ 97 ∷ 110 ∷ 116 ∷ 61 ∷ 115 ∷ 112 ∷ 101 ∷ 101 ∷ 100 ∷ 58 ∷ []
+
+abbrev pub want-hold : List ℕ
+want-hold = 119 ∷ 97 ∷ 110 ∷ 116 ∷ 61 ∷ 104 ∷ 111 ∷ 108 ∷ 100 ∷ []
+
+-- "at, end, speed, limit, surface: 32 bits; car: 16; the start's cycle: 64": the most that each holds
+abbrev pub bits32 : ℕ
+bits32 = 4294967295
+
+abbrev pub bits16 : ℕ
+bits16 = 65535
+
+abbrev pub bits64 : ℕ
+bits64 = 18446744073709551615
+
+-- ---- blocks
+
+pub data Block : Type 0 where
+  start-block : (surface end limit cycle : ℕ) → Block
+  enter-block : (car at speed : ℕ) → Block
+  leave-block : (car : ℕ) → Block
+  cycle-block : (wishes : List Wish) → Block
+  show-block : Block
+
+-- what a text begins with: a block, which takes so many bytes, or none
+pub data Parsed : Type 0 where
+  parsed : Block → (used : ℕ) → Parsed
+  malformed : Parsed
+
+-- what comes after k bytes
+abbrev pub past : ℕ → Parsed → Parsed
+past k (parsed b used) = parsed b (k + used)
+past k malformed = malformed
+
+-- "in fixed order": what is read after a text's first line
+unfoldable pub afterLine : List ℕ → (List ℕ → Parsed) → Parsed
+afterLine t next = past (suc (lineLength t)) (next (drop (suc (lineLength t)) t))
+
+-- a line that is given whole
+unfoldable pub isLine : (whole : List ℕ) → List ℕ → Bool
+isLine whole t = hasLine whole t && eqb (lineLength t) (length whole)
+
+-- a line of a key with a number, and what follows it
+unfoldable pub field : (key : List ℕ) (most : ℕ) → List ℕ → (ℕ → List ℕ → Parsed) → Parsed
+field key most t next =
+    cond (isNumber (fieldIn key most t)) (afterLine t (next (valueIn (fieldIn key most t)))) malformed
+
+-- "`call=start`, `surface`, `end`, `limit`, `cycle`"
+unfoldable pub startLines : List ℕ → Parsed
+startLines t =
+    field surface-key bits32 t (λ surface t. field end-key bits32 t (λ end t. field limit-key bits32 t (λ limit t.
+    field cycle-key bits64 t (λ cycle t. parsed (start-block surface end limit cycle) 0))))
+
+-- "`call=enter`, `car`, `at`, `speed`"
+unfoldable pub enterLines : List ℕ → Parsed
+enterLines t =
+    field car-key bits16 t (λ car t. field at-key bits32 t (λ at t. field speed-key bits32 t (λ speed t.
+    parsed (enter-block car at speed) 0)))
+
+-- "`call=leave`, `car`"
+unfoldable pub leaveLines : List ℕ → Parsed
+leaveLines t = field car-key bits16 t (λ car t. parsed (leave-block car) 0)
+
+-- ---- "lines `want=`"
+
+-- "`units:` and a number"
+abbrev pub unitsWanted : Signed → Want
+unitsWanted (signed.Is n) = Wanted (Units n)
+unitsWanted signed.Malformed = Nothing
+
+-- "`accel:` or `speed:` and the float's bits"
+abbrev pub floatWanted : (Float → Wish) → Number → Want
+floatWanted f (number.Is n) = Wanted (f (ofBits binary32 n))
+floatWanted f number.Malformed = Nothing
+
+-- "`units:` and a number, `accel:` or `speed:` and the float's bits as eight upper-case hexadecimal digits, or `hold`"
+unfoldable pub wishIn : List ℕ → Want
+wishIn t =
+    cond (hasLine want-units t) (unitsWanted (signedIn (lineValue want-units t)))
+    (cond (hasLine want-accel t) (floatWanted Acceleration (bitsIn (lineValue want-accel t)))
+    (cond (hasLine want-speed t) (floatWanted TargetSpeed (bitsIn (lineValue want-speed t)))
+    (cond (isLine want-hold t) (Wanted Hold) Nothing)))
+
+unfoldable pub wantIn : List ℕ → Want
+wantIn t = cond (hasLine want-key t) (wishIn t) Nothing
+
+abbrev pub isWish : Want → Bool
+isWish (Wanted w) = true
+isWish Nothing = false
+
+abbrev pub wishOf : Want → Wish
+wishOf (Wanted w) = w
+wishOf Nothing = Hold
+
+-- "so many lines `want=`", after those of the wishes in hand
+unfoldable pub wants : ℕ → (hand : List Wish) → List ℕ → Parsed
+wants zero hand t = parsed (cycle-block hand) 0
+wants (suc n) hand t =
+    cond (isWish (wantIn t)) (afterLine t (wants n (hand ++ (wishOf (wantIn t) ∷ [])))) malformed
+
+-- "`call=cycle`, `cars` (0 to 64), and so many lines `want=`"
+unfoldable pub cycleLines : List ℕ → Parsed
+cycleLines t = field cars-key 64 t (λ cars. wants cars [])
+
+-- ---- "blocks of `key=value` lines in fixed order"
+
+unfoldable pub blockIn : List ℕ → Parsed
+blockIn t =
+    cond (isLine call-start t) (afterLine t startLines)
+    (cond (isLine call-enter t) (afterLine t enterLines)
+    (cond (isLine call-leave t) (afterLine t leaveLines)
+    (cond (isLine call-cycle t) (afterLine t cycleLines)
+    (cond (isLine call-show t) (afterLine t (λ t. parsed show-block 0)) malformed))))

@@ -1,0 +1,4 @@
+-- What document 01 says of the program's input and output, as definitions.
+pub mod Blocks
+pub mod Output
+pub mod Program

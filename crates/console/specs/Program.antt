@@ -1,0 +1,59 @@
+-- Document 01, "Call texts": the program, block by block, and its whole output.
+use Prim.Native.Nat.{ℕ, zero, suc, _+_, _≤_}
+use mathlib.Core.Path.{_≡_}
+use mathlib.Core.Bool.{Bool, true, false, cond}
+use mathlib.Core.List.{List, [], _++_}
+use lib.Dec.{eqb, leb, ltb}
+use lib.ListN.{length, drop}
+use Rattle.text.specs.Lines.{written}
+use Rattle.lane.specs.State.{State, stateOf}
+use Rattle.console.specs.declared.Stepped.{Stepped}
+use Rattle.console.specs.Blocks.{Parsed, parsed, malformed, blockIn}
+use Rattle.console.specs.Output.{refusal, printed, stateAfter}
+
+-- what one step does: the state after it, the bytes of the text that it takes, what it prints, and whether the program stops there
+pub record Step : Type 0 where
+  pub after : State
+  pub used : ℕ
+  pub output : List ℕ
+  pub stop : Bool
+
+abbrev pub halted : State → Step
+halted s = record { after = s; used = 0; output = []; stop = true }
+
+-- "A block is read whole before it is run"; "after 8 the program reads no further"
+abbrev pub ran : State → Parsed → Step
+ran s (parsed b used) = record { after = stateAfter s b; used = used; output = printed s b; stop = false }
+ran s malformed = record { after = s; used = 0; output = refusal 8; stop = true }
+
+-- a step on a text, of which nothing is left at the end
+unfoldable pub stepOf : State → List ℕ → Step
+stepOf s t = cond (eqb (length t) 0) (halted s) (ran s (blockIn t))
+
+-- a step that prints into a lent buffer: nothing is done where the buffer has less than 4,096 bytes
+unfoldable pub stepInto : (buffer : List ℕ) → State → List ℕ → Step
+stepInto buffer s t = cond (leb 4096 (length buffer)) (stepOf s t) (halted s)
+
+-- what `step` at a place, with these bytes in the buffer, returns and leaves in the buffer when the step is x
+pub record Gives (x : Step) (at : ℕ) (buffer : List ℕ) (r : Stepped) (left : List ℕ) : Type 0 where
+  pub state : stateOf (r .lane) ≡ x .after
+  pub next : r .next ≡ at + x .used
+  pub written-length : r .written ≡ length (x .output)
+  pub room : length (x .output) ≤ length buffer
+  pub bytes : left ≡ written 0 (x .output) buffer
+  pub stop : r .stop ≡ x .stop
+
+-- the lane before the first block: it is empty and was never started
+abbrev pub neverStarted : State
+neverStarted = record { started = false; surface = 0; end = 0; limit = 0; cycle = 0; count = 0; carriers = [] }
+
+-- the steps in turn; a step that does not stop takes at least one byte, so that there are at most as many as bytes
+unfoldable pub outputFrom : (steps : ℕ) → State → List ℕ → List ℕ
+outputFrom zero s t = []
+outputFrom (suc n) s t =
+    let x = stepOf s t in
+    x .output ++ cond (x .stop) [] (outputFrom n (x .after) (drop (x .used) t))
+
+-- "10 program input above 65,536 bytes": it "is found first and is then all that is printed"; "Empty input prints nothing."
+unfoldable pub outputOf : List ℕ → List ℕ
+outputOf t = cond (ltb 65536 (length t)) (refusal 10) (outputFrom (length t) neverStarted t)

@@ -1,0 +1,38 @@
+// Standard input to standard output: the input is read whole, and then each block's answer is written before the next block is run.
+mod pipe;
+
+// The blocks in turn, until one stops the program, or the output is closed. A step that does not stop takes at least one byte.
+fn run(input: &[u8]) {
+    let mut lane = lane::empty();
+    let mut space = [0u8; 4096];
+    let mut at: usize = 0;
+    let mut turns = input.len();
+    while turns > 0 {
+        let out: &mut [u8] = &mut space;
+        let s = console::step(lane, input, at, out);
+        let n = s.written;
+        if !pipe::write_whole(&space[..n]) {
+            return;
+        }
+        if s.stop {
+            return;
+        }
+        lane = s.lane;
+        at = s.next;
+        turns -= 1;
+    }
+}
+
+fn supervise(space: &mut [u8]) {
+    let n = pipe::read_whole(space);
+    if 65536 < n {
+        pipe::write_whole(b"no=10\n");
+        return;
+    }
+    run(&space[..n]);
+}
+
+fn main() {
+    let mut space = [0u8; 65537];
+    supervise(&mut space);
+}

@@ -1,0 +1,99 @@
+// Bytes moved between file descriptors and slices. A call that moves fewer bytes than asked goes on from there, and one that a signal
+// interrupted before it moved any is made again; the end of the input, a closed output and any other error end the moving.
+ghost use mathlib.Core.Path.{_≡_};
+ghost use Prim.Native.Nat.{_+_, _≤_};
+ghost use lib.ListN.{length};
+use libc::STDIN_FILENO;
+use libc::STDOUT_FILENO;
+
+// What one call moved, and whether to go on.
+struct Moved {
+    bytes: usize,
+    more: bool,
+}
+
+fn taken(got: isize, most: usize) -> Moved
+    ensures { λ r. ⌜ r .bytes ≤ most ⌝ }
+{
+    if got > 0 {
+        let n = got as usize;
+        if n < most {
+            return Moved {
+                bytes: n,
+                more: true,
+            };
+        }
+        return Moved {
+            bytes: most,
+            more: true,
+        };
+    }
+    Moved {
+        bytes: 0,
+        more: os::errno() == libc::EINTR,
+    }
+}
+
+fn read_once(buf: &mut [u8], from: usize) -> Moved
+    requires { ⌜ from ≤ length (now buf) ⌝ }
+    ensures { λ r. ⌜ from + r .bytes ≤ length (now (buf .entry)) ⌝ }
+    ensures { λ r. ⌜ length (now (buf .exit)) ≡ length (now (buf .entry)) ⌝ }
+{
+    let room = buf.len() - from;
+    let got = libc::read(STDIN_FILENO, &mut buf[from..]);
+    if got == 0 {
+        return Moved {
+            bytes: 0,
+            more: false,
+        };
+    }
+    taken(got, room)
+}
+
+// The input up to the buffer's length. A proved loop has to end, and nothing says that an input does: so the turns are counted down,
+// from a number that no run uses up.
+pub(crate) fn read_whole(buf: &mut [u8]) -> usize
+    ensures { λ r. ⌜ r ≤ length (now (buf .exit)) ⌝ }
+{
+    let mut turns = u64::MAX;
+    let mut at: usize = 0;
+    while turns > 0 {
+        if buf.len() <= at {
+            return at;
+        }
+        let m = read_once(buf, at);
+        at += m.bytes;
+        if !m.more {
+            return at;
+        }
+        turns -= 1;
+    }
+    at
+}
+
+fn write_once(buf: &[u8], from: usize) -> Moved
+    requires { ⌜ from ≤ length (now buf) ⌝ }
+    ensures { λ r. ⌜ from + r .bytes ≤ length (now (buf .entry)) ⌝ }
+{
+    let left = buf.len() - from;
+    let got = libc::write(STDOUT_FILENO, &buf[from..]);
+    taken(got, left)
+}
+
+// All of it, or false.
+pub(crate) fn write_whole(buf: &[u8]) -> bool {
+    let mut turns = u64::MAX;
+    let mut at: usize = 0;
+    while turns > 0 {
+        if buf.len() <= at {
+            return true;
+        }
+        let m = write_once(buf, at);
+        at += m.bytes;
+        if !m.more {
+            return false;
+        }
+        turns -= 1;
+    }
+    false
+}

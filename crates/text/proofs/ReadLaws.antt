@@ -1,0 +1,208 @@
+-- The laws of what is read: all that the crates above use of `specs/Fields`, whose definitions they leave shut.
+use mathlib.Core.Path.{_≡_, refl, sym, ap, _∙_}
+use mathlib.Core.Bool.{Bool, true, false, _&&_, and-false, cond, false≢true}
+use mathlib.Core.List.{List, [], _∷_, _++_, append-assoc}
+use Prim.Native.Nat.{ℕ, suc, _+_, _^_, _≤_, _<_}
+use native.Mathlib.Decide.{decLt}
+use native.Mathlib.Omega.{arith}
+use lib.Dec.{leb, ltb, eqb}
+use lib.ListN.{length, getD, take, drop, length-append}
+use lib.Seq.{take-at, drop-at, drop-append-seam, length-take-le}
+use borrow.Author.Tests.{lt-ltb, le-ltb, le-leb, eq-eqb, ltb-true, leb-true, eqb-true}
+use Rattle.text.specs.Numbers.{digits, decimal, hexadecimal, spelled}
+use Rattle.text.specs.Lines.{line}
+use Rattle.text.specs.Fields.{lineLength, startsWith, hasLine, lineValue, isDecimal, areDigits, numberOf, numberIn, bitsIn, fieldIn, isNumber, valueIn}
+use Rattle.text.specs.declared.numbers.Number.{Number}
+use Rattle.text.specs.declared.numbers.Number.the-variants.{Is, Malformed}
+use Rattle.text.proofs.Digits.{decimal-small, decimal-is-digits}
+use Rattle.text.proofs.Laws.{length-line, length-hexadecimal, decimal-not-empty, decimal-no-leading-zero, decimal-spells}
+use Rattle.text.proofs.Reading.{both, decimal-is, decimal-spelled, put-are-digits, put-number, digits-no-newline, bits-below, hexadecimal-again}
+
+-- ---- a line that is there
+
+starts-within : (key text : List ℕ) → startsWith key text ≡ true → length key ≤ length text
+unfolding startsWith
+starts-within [] text e = omega arith
+starts-within (k ∷ key) [] e = absurd (false≢true e)
+starts-within (k ∷ key) (b ∷ text) e = omega (arith, starts-within key text (both (eqb k b) (startsWith key text) e .1))
+
+module _ (key text : List ℕ) (there : hasLine key text ≡ true) where
+  parts : (ltb (lineLength text) (length text) && ltb (lineLength text) 64 ≡ true) × (startsWith key (take (lineLength text) text) ≡ true)
+  unfolding hasLine
+  parts = both (ltb (lineLength text) (length text) && ltb (lineLength text) 64) (startsWith key (take (lineLength text) text)) there
+
+  lengths : (ltb (lineLength text) (length text) ≡ true) × (ltb (lineLength text) 64 ≡ true)
+  lengths = both (ltb (lineLength text) (length text)) (ltb (lineLength text) 64) (parts .0)
+
+  -- "a last line without newline is malformed": the newline is in the text
+  pub line-within : suc (lineLength text) ≤ length text
+  line-within = ltb-true (lineLength text) (length text) (lengths .0)
+
+  -- "each line at most 64 bytes with its newline"
+  pub line-at-most : suc (lineLength text) ≤ 64
+  line-at-most = ltb-true (lineLength text) 64 (lengths .1)
+
+  pub key-within : length key ≤ lineLength text
+  key-within =
+      omega (arith, starts-within key (take (lineLength text) text) (parts .1), length-take-le (lineLength text) text (omega (arith, line-within)))
+
+-- where both lengths are right, the key decides
+pub key-decides : (key text : List ℕ) → lineLength text < length text → lineLength text < 64 → hasLine key text ≡ startsWith key (take (lineLength text) text)
+unfolding hasLine
+key-decides key text h g = rw (lt-ltb (lineLength text) (length text) h, lt-ltb (lineLength text) 64 g)
+
+pub no-line : (key text : List ℕ) → length text ≤ lineLength text → hasLine key text ≡ false
+unfolding hasLine
+no-line key text h = rw (le-ltb (lineLength text) (length text) h)
+
+pub line-too-long : (key text : List ℕ) → 64 ≤ lineLength text → hasLine key text ≡ false
+unfolding hasLine
+line-too-long key text h = rw (le-ltb (lineLength text) 64 h, and-false)
+
+-- the place after a line that is there, of what `read_line` gives
+pub next-is : (key text : List ℕ) (at : ℕ) {next : ℕ} → hasLine key text ≡ true
+    → next ≡ cond (hasLine key text) (at + suc (lineLength text)) at → next ≡ at + suc (lineLength text)
+next-is key text at there e = rw there at e
+
+pub line-not-empty : (text : List ℕ) → 1 ≤ suc (lineLength text)
+line-not-empty text = omega arith
+
+-- ---- a line that was put
+
+goes-on : (t : Bool) (m n : ℕ) → cond t 0 (suc m) ≡ suc n → (t ≡ false) × (m ≡ n)
+goes-on true m n e = absurd (omega arith)
+goes-on false m n e = (refl, omega arith)
+
+-- A list has no newline where its line is all of it. What stands before it only adds to a line.
+pub line-append : (l text : List ℕ) → lineLength l ≡ length l → lineLength (l ++ text) ≡ length l + lineLength text
+unfolding lineLength
+line-append [] text e = omega arith
+line-append (b ∷ l) text e =
+    let s = goes-on (eqb b 10) (lineLength l) (length l) e in
+    rw (s .0) (omega (arith, line-append l text (s .1)))
+
+starts-itself : (key text : List ℕ) → startsWith key (key ++ text) ≡ true
+unfolding startsWith
+starts-itself [] text = refl
+starts-itself (k ∷ key) text = rw (eq-eqb k k refl) (starts-itself key text)
+
+module _ (key value rest : List ℕ) (k : lineLength key ≡ length key) (v : lineLength value ≡ length value) where
+  abbrev text : List ℕ
+  text = line key value ++ rest
+
+  in-parts : text ≡ (key ++ value) ++ (10 ∷ rest)
+  unfolding line
+  in-parts = append-assoc (key ++ value) (10 ∷ []) rest
+
+  pub length-of-line : lineLength (line key value ++ rest) ≡ length key + length value
+  unfolding lineLength
+  length-of-line = rw (in-parts, append-assoc, line-append key, line-append value) (omega arith)
+
+  before-newline : take (lineLength text) text ≡ key ++ value
+  before-newline = rw (length-of-line, in-parts) (take-at (key ++ value) (10 ∷ rest) (length key + length value) (length-append key value))
+
+  pub line-there : length key + length value < 64 → hasLine key (line key value ++ rest) ≡ true
+  line-there h =
+      key-decides key text (rw (length-of-line, length-append, length-line) (omega arith)) (rw length-of-line h) ∙ rw before-newline (starts-itself key value)
+
+  pub value-there : length key + length value < 64 → lineValue key (line key value ++ rest) ≡ value
+  unfolding lineValue
+  value-there h = rw (line-there h, before-newline) (drop-append-seam key value)
+
+  pub after-line : drop (suc (lineLength (line key value ++ rest))) (line key value ++ rest) ≡ rest
+  after-line = drop-at (line key value) rest (suc (lineLength text)) (rw length-of-line (length-line key value ∙ omega arith))
+
+-- ---- numbers
+
+-- what a test lets pass
+chosen : (t : Bool) (m n : ℕ) → cond t (Is m) Malformed ≡ Is n → (t ≡ true) × (m ≡ n)
+chosen true m n e = (refl, cc)
+chosen false m n e = let z : _≡_ {A = ℕ} 0 1 = cc in absurd (omega arith)
+
+decimal-are-digits : (n : ℕ) → areDigits 10 (decimal n) ≡ true
+decimal-are-digits n =
+    ap (areDigits 10) (sym (decimal-is-digits n)) ∙ put-are-digits 10 (omega arith) (omega arith) (length (decimal n)) n
+
+pub decimal-no-newline : (n : ℕ) → lineLength (decimal n) ≡ length (decimal n)
+decimal-no-newline n = digits-no-newline 10 (decimal n) (omega arith) (decimal-are-digits n)
+
+pub hexadecimal-no-newline : (k n : ℕ) → lineLength (hexadecimal k n) ≡ length (hexadecimal k n)
+unfolding hexadecimal
+hexadecimal-no-newline k n = digits-no-newline 16 (hexadecimal k n) (omega arith) (put-are-digits 16 (omega arith) (omega arith) k n)
+
+first-not-zero : (n : ℕ) → 1 < length (decimal n) → getD (decimal n) 0 0 ≡ 48 → ⊥
+first-not-zero n h e = by-size (decLt n 10)
+  where
+    by-size : Dec (n < 10) → ⊥
+    by-size (yes s) = omega (arith, ap length (decimal-small n s))
+    by-size (no l) = omega (arith, decimal-no-leading-zero n (omega arith))
+
+-- a number that is put is read, where the field can hold it
+pub number-read : (most n : ℕ) → n ≤ most → numberIn most (decimal n) ≡ Is n
+unfolding numberIn
+number-read most n h =
+    let t : isDecimal (decimal n) ≡ true = decimal-is (decimal n) (decimal-not-empty n) (first-not-zero n) ∙ decimal-are-digits n in
+    rw (t, decimal-spells n, le-leb n most h)
+
+-- and what is read is that number as it is put
+pub number-put : (most : ℕ) (ds : List ℕ) (n : ℕ) → numberIn most ds ≡ Is n → (ds ≡ decimal n) × (n ≤ most)
+unfolding numberIn
+number-put most ds n e =
+    let c = chosen (isDecimal ds && leb (spelled 0 ds) most) (spelled 0 ds) n e in
+    let t = both (isDecimal ds) (leb (spelled 0 ds) most) (c .0) in
+    (decimal-spelled ds (t .0) ∙ ap decimal (c .1), rw (c .1) at (leb-true (spelled 0 ds) most (t .1)))
+
+-- the same of a float's bits
+pub bits-read : (n : ℕ) → n < 2 ^ 32 → bitsIn (hexadecimal 8 n) ≡ Is n
+unfolding bitsIn hexadecimal
+bits-read n h =
+    rw (
+      eq-eqb (length (hexadecimal 8 n)) 8 (length-hexadecimal 8 n),
+      put-are-digits 16 (omega arith) (omega arith) 8 n,
+      put-number 16 (omega arith) (omega arith) 8 n h,
+    )
+
+pub bits-put : (ds : List ℕ) (n : ℕ) → bitsIn ds ≡ Is n → (ds ≡ hexadecimal 8 n) × (n < 2 ^ 32)
+unfolding bitsIn hexadecimal digits
+bits-put ds n e =
+    let c = chosen (eqb (length ds) 8 && areDigits 16 ds) (numberOf 16 0 ds) n e in
+    let t = both (eqb (length ds) 8) (areDigits 16 ds) (c .0) in
+    let l : length ds ≡ 8 = eqb-true (length ds) 8 (t .0) in
+    (sym (hexadecimal-again 0 0 ds (t .1)) ∙ rw (l, c .1), rw (c .1) at (bits-below ds l (t .1)))
+
+-- ---- a line with a number
+
+pub field-read : (key rest : List ℕ) (most n : ℕ) → lineLength key ≡ length key → length key + length (decimal n) < 64 → n ≤ most
+    → fieldIn key most (line key (decimal n) ++ rest) ≡ Is n
+unfolding fieldIn
+field-read key rest most n k h g =
+    let v = decimal-no-newline n in
+    rw (line-there key (decimal n) rest k v h, value-there key (decimal n) rest k v h) (number-read most n g)
+
+pub is-number : (m : Number) → isNumber m ≡ true → m ≡ Is (valueIn m)
+unfolding isNumber valueIn
+is-number (Is n) e = refl
+is-number Malformed e = absurd (false≢true e)
+
+held : (t : Bool) (m : Number) (n : ℕ) → cond t m Malformed ≡ Is n → (t ≡ true) × (m ≡ Is n)
+held true m n e = (refl, e)
+held false m n e = let z : _≡_ {A = ℕ} 0 1 = cc in absurd (omega arith)
+
+at-most : (most : ℕ) (m : Number) → ((n : ℕ) → m ≡ Is n → n ≤ most) → valueIn m ≤ most
+unfolding valueIn
+at-most most (Is n) f = f n refl
+at-most most Malformed f = omega arith
+
+module _ (key : List ℕ) (most : ℕ) (text : List ℕ) where
+  pub field-put : (n : ℕ) → fieldIn key most text ≡ Is n → (hasLine key text ≡ true) × (lineValue key text ≡ decimal n) × (n ≤ most)
+  unfolding fieldIn
+  field-put n e =
+      let h = held (hasLine key text) (numberIn most (lineValue key text)) n e in
+      let p = number-put most (lineValue key text) n (h .1) in
+      (h .0, p .0, p .1)
+
+  pub field-in-line : isNumber (fieldIn key most text) ≡ true → hasLine key text ≡ true
+  field-in-line e = field-put (valueIn (fieldIn key most text)) (is-number (fieldIn key most text) e) .0
+
+  pub field-at-most : valueIn (fieldIn key most text) ≤ most
+  field-at-most = at-most most (fieldIn key most text) (λ n e. field-put n e .2)

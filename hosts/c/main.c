@@ -1,0 +1,196 @@
+/* A worked host: five minutes of a lane with an entry at its start, a side road, an exit and an end that carriers run out at.
+ * It prints a summary that is the same in every run. */
+#include "rondavitse.h"
+
+#include <stdio.h>
+#include <stdlib.h>
+#include <string.h>
+
+enum {
+    METRE = 2048,           /* positions count 1/2048 m */
+    METRE_PER_SECOND = 128, /* speeds count 1/128 m/s */
+    CYCLES = 2400,          /* of 1/8 s */
+    DRY = 0,                /* the surface */
+    LANE_END = 400 * METRE,
+    SPEED_LIMIT = 20 * METRE_PER_SECOND,
+    SIDE_ROAD = 120 * METRE,
+    LAST_REFUSAL = 28,
+    LONGEST_TEXT = 2635
+};
+
+#define EXIT_POSITION 300.0 /* m */
+
+typedef struct {
+    rondavitse_lane lane;
+    uint16_t next_number;
+    unsigned admitted, replaced, left, gone;
+    unsigned refused[LAST_REFUSAL + 1]; /* by the refusal's number */
+    double closest;                     /* the least distance to the carrier ahead, m */
+    double fastest;                     /* m/s */
+} host;
+
+/* For the calls that this host makes only when they cannot be refused. */
+static void expect_accepted(const char *call, uint32_t no) {
+    if (no != 0) {
+        fprintf(stderr, "%s refused: %u\n", call, (unsigned)no);
+        exit(EXIT_FAILURE);
+    }
+}
+
+static host started(void) {
+    host h = {.next_number = 1, .closest = LANE_END};
+    rondavitse_changed answer = rondavitse_start(rondavitse_empty(), DRY, LANE_END, SPEED_LIMIT, 0);
+    expect_accepted("start", answer.no);
+    h.lane = answer.lane;
+    return h;
+}
+
+/* A carrier that is refused waits with its number for the next try. */
+static void try_entry(host *h, uint32_t position, uint32_t speed) {
+    rondavitse_entered answer = rondavitse_enter(h->lane, h->next_number, position, speed);
+    h->lane = answer.lane;
+    if (answer.no == 0) {
+        h->next_number++;
+        h->admitted++;
+    } else {
+        h->refused[answer.no]++;
+    }
+}
+
+static void let_carriers_in(host *h, int cycle) {
+    if (cycle % 16 == 0) {
+        try_entry(h, 0, 14 * METRE_PER_SECOND);
+    }
+    if (cycle % 13 == 5) {
+        try_entry(h, SIDE_ROAD, 10 * METRE_PER_SECOND);
+    }
+}
+
+static uint32_t float_bits(float value) {
+    uint32_t bits;
+    memcpy(&bits, &value, sizeof bits);
+    return bits;
+}
+
+typedef struct {
+    uint8_t sort;
+    uint32_t value;
+} wish;
+
+static wish units(int32_t units) {
+    return (wish){RONDAVITSE_UNITS, (uint32_t)units};
+}
+
+static wish acceleration(float metres_per_second_squared) {
+    return (wish){RONDAVITSE_ACCELERATION, float_bits(metres_per_second_squared)};
+}
+
+static wish target_speed(float metres_per_second) {
+    return (wish){RONDAVITSE_TARGET_SPEED, float_bits(metres_per_second)};
+}
+
+static wish hold(void) {
+    return (wish){RONDAVITSE_HOLD, 0};
+}
+
+/* By the carrier's number; but now and then the foremost brakes for six seconds. */
+static wish wish_of(rondavitse_carrier carrier, size_t place, int cycle) {
+    if (place == 0 && cycle % 600 >= 552) {
+        return acceleration(-2.5f);
+    }
+    switch (carrier.number % 4) {
+    case 0:
+        return carrier.speed < 8 * METRE_PER_SECOND ? units(16) : hold();
+    case 1:
+        return units(cycle % 3 == 0 ? -4 : 12);
+    case 2:
+        return acceleration(0.7f);
+    default:
+        return target_speed(13.3f);
+    }
+}
+
+static void drive(host *h, int cycle) {
+    uint8_t sorts[RONDAVITSE_MOST_CARRIERS];
+    uint32_t values[RONDAVITSE_MOST_CARRIERS];
+    size_t count = h->lane.count;
+    for (size_t place = 0; place < count; place++) {
+        wish w = wish_of(h->lane.carriers[place], place, cycle);
+        sorts[place] = w.sort;
+        values[place] = w.value;
+    }
+    rondavitse_cycled answer = rondavitse_cycle(h->lane, count, sorts, count, values, count);
+    expect_accepted("cycle", answer.no);
+    h->lane = answer.lane;
+    h->replaced += answer.replaced;
+    h->gone += answer.gone;
+}
+
+static rondavitse_reading reading_at(const host *h, size_t place) {
+    rondavitse_read_out answer = rondavitse_read(h->lane, h->lane.carriers[place].number);
+    expect_accepted("read", answer.no);
+    return answer.reading;
+}
+
+static void watch(host *h) {
+    double ahead = LANE_END;
+    for (size_t place = 0; place < h->lane.count; place++) {
+        rondavitse_reading reading = reading_at(h, place);
+        if (place > 0 && ahead - reading.position < h->closest) {
+            h->closest = ahead - reading.position;
+        }
+        if (reading.speed > h->fastest) {
+            h->fastest = reading.speed;
+        }
+        ahead = reading.position;
+    }
+}
+
+/* Every fifth carrier takes the exit. */
+static void let_carriers_out(host *h) {
+    size_t place = 0;
+    while (place < h->lane.count) {
+        uint16_t number = h->lane.carriers[place].number;
+        if (number % 5 != 0 || reading_at(h, place).position < EXIT_POSITION) {
+            place++;
+            continue;
+        }
+        rondavitse_changed answer = rondavitse_leave(h->lane, number);
+        expect_accepted("leave", answer.no);
+        h->lane = answer.lane; /* the next carrier now has this place */
+        h->left++;
+    }
+}
+
+static void print_summary(const host *h) {
+    uint8_t text[LONGEST_TEXT];
+    rondavitse_listed answer = rondavitse_lane_text(h->lane, text, sizeof text);
+    expect_accepted("lane text", answer.no);
+    printf("cycles run: %d\n", CYCLES);
+    printf("entries admitted: %u\n", h->admitted);
+    for (int no = 1; no <= LAST_REFUSAL; no++) {
+        if (h->refused[no] > 0) {
+            printf("entries refused with %d: %u\n", no, h->refused[no]);
+        }
+    }
+    printf("wishes replaced: %u\n", h->replaced);
+    printf("carriers out by the exit: %u\n", h->left);
+    printf("carriers gone at the lane end: %u\n", h->gone);
+    /* As many digits as 1/2048 and 1/128 have: nothing is rounded. */
+    printf("closest to the carrier ahead: %.11f m\n", h->closest);
+    printf("fastest: %.7f m/s\n", h->fastest);
+    printf("the lane now:\n");
+    fwrite(text, 1, answer.length, stdout);
+}
+
+int main(void) {
+    host h = started();
+    for (int cycle = 0; cycle < CYCLES; cycle++) {
+        let_carriers_in(&h, cycle);
+        drive(&h, cycle);
+        watch(&h);
+        let_carriers_out(&h);
+    }
+    print_summary(&h);
+    return EXIT_SUCCESS;
+}

@@ -1,0 +1,11 @@
+//! The lane supervisor for hosts in Rust.
+//!
+//! [`binding`] declares the C functions as `rondavitse.h` does; [`lane`] is
+//! the safe way to call them.
+
+pub mod binding;
+pub mod lane;
+pub mod refusal;
+
+pub use lane::{Cycled, Lane, Reading, Wish, MOST_CARRIERS};
+pub use refusal::Refusal;

@@ -1,0 +1,149 @@
+//! A worked host: five minutes of a lane with an entry at its start, a side
+//! road, an exit and an end that carriers run out at. It prints a summary that
+//! is the same in every run, and the same as that of the host in C.
+
+use rondavitse::lane::Carrier;
+use rondavitse::{Lane, Reading, Refusal, Wish};
+use std::collections::BTreeMap;
+
+/// Positions count 1/2048 m, speeds 1/128 m/s.
+const METRE: u32 = 2048;
+const METRE_PER_SECOND: u32 = 128;
+const CYCLES: u32 = 2_400;
+const DRY: u32 = 0;
+const LANE_END: u32 = 400 * METRE;
+const SPEED_LIMIT: u32 = 20 * METRE_PER_SECOND;
+const SIDE_ROAD: u32 = 120 * METRE;
+/// In metres.
+const EXIT_POSITION: f64 = 300.0;
+
+struct Host {
+    lane: Lane,
+    next_number: u16,
+    admitted: u32,
+    refused: BTreeMap<Refusal, u32>,
+    replaced: u32,
+    left: u32,
+    gone: u32,
+    /// The least distance to the carrier ahead, in metres.
+    closest: f64,
+    /// In m/s.
+    fastest: f64,
+}
+
+impl Host {
+    fn started() -> Result<Host, Refusal> {
+        Ok(Host {
+            lane: Lane::started(DRY, LANE_END, SPEED_LIMIT, 0)?,
+            next_number: 1,
+            admitted: 0,
+            refused: BTreeMap::new(),
+            replaced: 0,
+            left: 0,
+            gone: 0,
+            closest: f64::INFINITY,
+            fastest: 0.0,
+        })
+    }
+
+    fn let_carriers_in(&mut self, cycle: u32) {
+        if cycle.is_multiple_of(16) {
+            self.try_entry(0, 14 * METRE_PER_SECOND);
+        }
+        if cycle % 13 == 5 {
+            self.try_entry(SIDE_ROAD, 10 * METRE_PER_SECOND);
+        }
+    }
+
+    /// A carrier that is refused waits with its number for the next try.
+    fn try_entry(&mut self, position: u32, speed: u32) {
+        match self.lane.enter(self.next_number, position, speed) {
+            Ok(_) => {
+                self.next_number += 1;
+                self.admitted += 1;
+            }
+            Err(refusal) => *self.refused.entry(refusal).or_default() += 1,
+        }
+    }
+
+    fn drive(&mut self, cycle: u32) -> Result<(), Refusal> {
+        let carriers = self.lane.carriers().iter().enumerate();
+        let wishes: Vec<Wish> = carriers
+            .map(|(place, &carrier)| wish_of(carrier, place, cycle))
+            .collect();
+        let cycled = self.lane.cycle(&wishes)?;
+        self.replaced += cycled.replaced;
+        self.gone += cycled.gone;
+        Ok(())
+    }
+
+    fn readings(&self) -> Result<Vec<Reading>, Refusal> {
+        let carriers = self.lane.carriers().iter();
+        carriers
+            .map(|carrier| self.lane.read(carrier.number))
+            .collect()
+    }
+
+    fn watch(&mut self) -> Result<(), Refusal> {
+        let readings = self.readings()?;
+        for pair in readings.windows(2) {
+            self.closest = self.closest.min(pair[0].position - pair[1].position);
+        }
+        for reading in readings {
+            self.fastest = self.fastest.max(reading.speed);
+        }
+        Ok(())
+    }
+
+    /// Every fifth carrier takes the exit.
+    fn let_carriers_out(&mut self) -> Result<(), Refusal> {
+        for Carrier { number, .. } in self.lane.carriers().to_vec() {
+            if number % 5 == 0 && self.lane.read(number)?.position >= EXIT_POSITION {
+                self.lane.leave(number)?;
+                self.left += 1;
+            }
+        }
+        Ok(())
+    }
+
+    fn print_summary(&self) -> Result<(), Refusal> {
+        println!("cycles run: {CYCLES}");
+        println!("entries admitted: {}", self.admitted);
+        for (refusal, times) in &self.refused {
+            println!("entries refused with {}: {times}", refusal.number());
+        }
+        println!("wishes replaced: {}", self.replaced);
+        println!("carriers out by the exit: {}", self.left);
+        println!("carriers gone at the lane end: {}", self.gone);
+        // As many digits as 1/2048 and 1/128 have: nothing is rounded.
+        println!("closest to the carrier ahead: {:.11} m", self.closest);
+        println!("fastest: {:.7} m/s", self.fastest);
+        print!("the lane now:\n{}", self.lane.text()?);
+        Ok(())
+    }
+}
+
+/// By the carrier's number; but now and then the foremost brakes for six seconds.
+fn wish_of(carrier: Carrier, place: usize, cycle: u32) -> Wish {
+    if place == 0 && cycle % 600 >= 552 {
+        return Wish::Acceleration(-2.5);
+    }
+    match carrier.number % 4 {
+        0 if carrier.speed < 8 * METRE_PER_SECOND => Wish::Units(16),
+        0 => Wish::Hold,
+        1 => Wish::Units(if cycle.is_multiple_of(3) { -4 } else { 12 }),
+        2 => Wish::Acceleration(0.7),
+        _ => Wish::TargetSpeed(13.3),
+    }
+}
+
+fn main() -> Result<(), Refusal> {
+    let mut host = Host::started()?;
+    for cycle in 0..CYCLES {
+        host.let_carriers_in(cycle);
+        host.drive(cycle)?;
+        host.watch()?;
+        host.let_carriers_out()?;
+    }
+    host.print_summary()
+}

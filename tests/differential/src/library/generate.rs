@@ -1,0 +1,111 @@
+//! Random cases: histories, and calls on lanes that a host may hand in.
+
+use super::case::Case;
+use super::host;
+use super::host_call::{sort_and_value, wish, HostCall};
+use lane_reference::random::{
+    call, history, sound_lane, unsound_lane, History, Random, EVEN, FLOAT_EDGES,
+};
+use lane_reference::{Call, FastLane, Lane, Supervisor, Wish, PLACES};
+
+/// Units that 16 bits do not hold, by their 32 bits.
+const WIDE_UNITS: [u32; 8] = [
+    0x0000_8000,
+    0x0000_FFFF,
+    0x0001_0000,
+    0x7FFF_FFFF,
+    0x8000_0000,
+    0xFFFF_0000,
+    0xFFFF_7FFF,
+    0x0001_0020,
+];
+
+/// Sorts that do not exist.
+const NO_SORTS: [u8; 6] = [4, 5, 8, 127, 128, 255];
+
+pub fn case(random: &mut Random) -> Case {
+    let (first, calls) = match random.below(8) {
+        0..=2 => {
+            let History { first, calls } = history(random, 130);
+            (first, calls)
+        }
+        3 => (host::empty(), history(random, 130).calls),
+        4..=5 => on_lane(random, sound_lane, 20),
+        _ => on_lane(random, unsound_lane, 4),
+    };
+    let calls = calls.into_iter().map(|call| hosted(random, call)).collect();
+    Case { first, calls }
+}
+
+/// A lane and calls, each fitted to the lane as the reference has it then.
+fn on_lane(random: &mut Random, lane: fn(&mut Random) -> Lane, length: usize) -> (Lane, Vec<Call>) {
+    let first = lane(random);
+    let mut lane = FastLane(first);
+    let mut calls = Vec::new();
+    for _ in 0..length {
+        let next = call(random, &lane.0, &EVEN);
+        // Refused calls belong here as well.
+        let _ = lane.call(&next);
+        calls.push(next);
+    }
+    (first, calls)
+}
+
+fn hosted(random: &mut Random, call: Call) -> HostCall {
+    let Call::Cycle { count, wishes } = call else {
+        return HostCall::Plain(call);
+    };
+    match random.below(30) {
+        0 => without_enough(random, count, &wishes),
+        1 => with_no_wish(random, count, &wishes),
+        _ => {
+            let length = random.pick(&[PLACES, count.min(PLACES as u64) as usize]);
+            listed(random, count, &wishes[..length])
+        }
+    }
+}
+
+/// Both lists; the value of a hold is anything.
+fn listed(random: &mut Random, count: u64, wishes: &[Wish]) -> HostCall {
+    let pairs = wishes.iter().map(|&wish| {
+        let any = random.pick(&FLOAT_EDGES);
+        sort_and_value(wish, any)
+    });
+    let (sorts, values) = pairs.unzip();
+    HostCall::Cycle {
+        count,
+        sorts,
+        values,
+    }
+}
+
+/// One list or both too short. The wishes themselves are in range: which of
+/// two faults comes first is not said.
+fn without_enough(random: &mut Random, count: u64, wishes: &[Wish; PLACES]) -> HostCall {
+    let sound = wishes.map(|wish| if wish.in_range() { wish } else { Wish::Hold });
+    let mut call = listed(random, count, &sound);
+    if let HostCall::Cycle { sorts, values, .. } = &mut call {
+        let some = random.below(count.clamp(1, PLACES as u64)) as usize;
+        let short = random.pick(&[some, 0, some.saturating_sub(1)]);
+        let (of_sorts, of_values) =
+            random.pick(&[(short, PLACES), (PLACES, short), (short, short)]);
+        sorts.truncate(of_sorts);
+        values.truncate(of_values);
+    }
+    call
+}
+
+/// A pair that is no wish, among the first `count` or just after them.
+fn with_no_wish(random: &mut Random, count: u64, wishes: &[Wish; PLACES]) -> HostCall {
+    let mut call = listed(random, count, wishes);
+    if let HostCall::Cycle { sorts, values, .. } = &mut call {
+        let place = random.below(count.saturating_add(1).min(PLACES as u64)) as usize;
+        (sorts[place], values[place]) = if random.chance(50) {
+            (0, random.pick(&WIDE_UNITS))
+        } else {
+            (random.pick(&NO_SORTS), random.bits() as u32)
+        };
+        debug_assert_eq!(wish(sorts[place], values[place]), None);
+    }
+    call
+}

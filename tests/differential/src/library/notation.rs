@@ -1,0 +1,155 @@
+//! Cases as text: a word and its figures on each line.
+
+use super::case::Case;
+use super::host_call::HostCall;
+use lane_reference::{Call, Carrier, Lane};
+use std::fmt::Write;
+use std::str::{FromStr, SplitWhitespace};
+
+/// The case as text, which [`parse`] reads back.
+pub fn print(case: &Case) -> String {
+    let lane = &case.first;
+    let mut text = format!(
+        "lane {} {} {} {} {} {}\n",
+        lane.started, lane.surface, lane.end, lane.limit, lane.cycle, lane.count
+    );
+    for carrier in lane.carriers {
+        let (number, position, speed) = (carrier.number, carrier.position, carrier.speed);
+        writeln!(text, "carrier {number} {position} {speed}").expect("a string takes all");
+    }
+    for call in &case.calls {
+        text += &print_call(call);
+    }
+    assert_eq!(parse(&text).as_ref(), Ok(case), "a case that reads back");
+    text
+}
+
+fn print_call(call: &HostCall) -> String {
+    match call {
+        HostCall::Plain(Call::Start {
+            surface,
+            end,
+            limit,
+            cycle,
+        }) => format!("start {surface} {end} {limit} {cycle}\n"),
+        HostCall::Plain(Call::Enter {
+            number,
+            position,
+            speed,
+        }) => format!("enter {number} {position} {speed}\n"),
+        HostCall::Plain(Call::Leave { number }) => format!("leave {number}\n"),
+        HostCall::Plain(Call::Read { number }) => format!("read {number}\n"),
+        HostCall::Plain(Call::LaneText { room }) => format!("lane_text {room}\n"),
+        HostCall::Plain(Call::Cycle { .. }) => unreachable!("a host's cycle is no plain call"),
+        HostCall::Cycle {
+            count,
+            sorts,
+            values,
+        } => format!(
+            "cycle {count}\nsorts{}\nvalues{}\n",
+            joined(sorts),
+            joined(values)
+        ),
+    }
+}
+
+fn joined<T: ToString>(figures: &[T]) -> String {
+    let figures = figures
+        .iter()
+        .map(|figure| format!(" {}", figure.to_string()));
+    figures.collect()
+}
+
+/// Reads a case; lines that begin with `#` are comments.
+pub fn parse(text: &str) -> Result<Case, String> {
+    let mut case = Case {
+        first: Lane::default(),
+        calls: Vec::new(),
+    };
+    let mut place = 0;
+    for line in text.lines().filter(|line| !line.starts_with('#')) {
+        let mut words = line.split_whitespace();
+        let read = match words.next().unwrap_or_default() {
+            "lane" => parse_lane(&mut words).map(|lane| case.first = lane),
+            "carrier" => parse_carrier(&mut words).and_then(|carrier| {
+                *case.first.carriers.get_mut(place)? = carrier;
+                place += 1;
+                Some(())
+            }),
+            word => parse_call(word, &mut words, &mut case.calls),
+        };
+        if read.is_none() || words.next().is_some() {
+            return Err(format!("not of a case: {line}"));
+        }
+    }
+    Ok(case)
+}
+
+fn figure<T: FromStr>(words: &mut SplitWhitespace) -> Option<T> {
+    words.next()?.parse().ok()
+}
+
+fn figures<T: FromStr>(words: &mut SplitWhitespace) -> Option<Vec<T>> {
+    words.map(|word| word.parse().ok()).collect()
+}
+
+fn parse_lane(words: &mut SplitWhitespace) -> Option<Lane> {
+    Some(Lane {
+        started: figure(words)?,
+        surface: figure(words)?,
+        end: figure(words)?,
+        limit: figure(words)?,
+        cycle: figure(words)?,
+        count: figure(words)?,
+        ..Lane::default()
+    })
+}
+
+fn parse_carrier(words: &mut SplitWhitespace) -> Option<Carrier> {
+    Some(Carrier {
+        number: figure(words)?,
+        position: figure(words)?,
+        speed: figure(words)?,
+    })
+}
+
+/// Adds a call, or a list of wishes to the cycle that it follows.
+fn parse_call(word: &str, words: &mut SplitWhitespace, calls: &mut Vec<HostCall>) -> Option<()> {
+    match (word, calls.last_mut()) {
+        ("sorts", Some(HostCall::Cycle { sorts, .. })) => *sorts = figures(words)?,
+        ("values", Some(HostCall::Cycle { values, .. })) => *values = figures(words)?,
+        ("cycle", _) => calls.push(HostCall::Cycle {
+            count: figure(words)?,
+            sorts: Vec::new(),
+            values: Vec::new(),
+        }),
+        _ => calls.push(HostCall::Plain(parse_plain(word, words)?)),
+    }
+    Some(())
+}
+
+fn parse_plain(word: &str, words: &mut SplitWhitespace) -> Option<Call> {
+    Some(match word {
+        "start" => Call::Start {
+            surface: figure(words)?,
+            end: figure(words)?,
+            limit: figure(words)?,
+            cycle: figure(words)?,
+        },
+        "enter" => Call::Enter {
+            number: figure(words)?,
+            position: figure(words)?,
+            speed: figure(words)?,
+        },
+        "leave" => Call::Leave {
+            number: figure(words)?,
+        },
+        "read" => Call::Read {
+            number: figure(words)?,
+        },
+        "lane_text" => Call::LaneText {
+            room: figure(words)?,
+        },
+        _ => return None,
+    })
+}

@@ -1,0 +1,100 @@
+//! The next call of a history, fitted to the lane it meets.
+
+use super::entries::{closing_up, entry, known_number};
+use super::wishes::wishes;
+use super::Random;
+use crate::call::Call;
+use crate::lane::{Lane, LONGEST_LANE_TEXT};
+
+/// How likely each sort of call is: closing up at the back, any other entry,
+/// cycle, leave, read, lane text, start.
+pub type Weights = [u64; 7];
+
+/// All sorts of calls.
+pub const EVEN: Weights = [10, 25, 30, 12, 8, 8, 3];
+
+/// A call on `lane`, which may be any lane.
+pub fn call(random: &mut Random, lane: &Lane, weights: &Weights) -> Call {
+    match random.weighted(weights) {
+        0 => closing_up(random, lane),
+        1 => entry(random, lane),
+        2 => cycle(random, lane),
+        3 => Call::Leave {
+            number: known_number(random, lane),
+        },
+        4 => Call::Read {
+            number: known_number(random, lane),
+        },
+        5 => lane_text(random, lane),
+        _ => start(random),
+    }
+}
+
+fn cycle(random: &mut Random, lane: &Lane) -> Call {
+    let present = lane.count;
+    let count = match random.below(20) {
+        0 => random.pick(&[present.wrapping_add(1), present.wrapping_sub(1)]),
+        1 => random.pick(&[0, 63, 64, 65, u64::MAX]),
+        _ => present,
+    };
+    let wishes = wishes(random, lane);
+    Call::Cycle { count, wishes }
+}
+
+/// Buffers about the length of the text.
+fn lane_text(random: &mut Random, lane: &Lane) -> Call {
+    let figures = lane.present().iter().map(|carrier| {
+        let digits = format!("{}{}{}", carrier.number, carrier.position, carrier.speed);
+        "car=\nat=\nspeed=\n".len() + digits.len()
+    });
+    let head = format!("cars={}\n", lane.present().len()).len();
+    let length = head + figures.sum::<usize>();
+    Call::LaneText {
+        room: random.pick(&[length, length, length - 1, length + 1, 0, LONGEST_LANE_TEXT]),
+    }
+}
+
+/// A start, with arguments outside their ranges now and then.
+pub fn start(random: &mut Random) -> Call {
+    let edge = |random: &mut Random, usual: u32, edges: &[u32]| {
+        if random.chance(10) {
+            random.pick(edges)
+        } else {
+            usual
+        }
+    };
+    let surface = random.below(8) as u32;
+    let (end, limit) = (any_end(random), any_limit(random));
+    Call::Start {
+        surface: edge(random, surface, &[8, 9, u32::MAX]),
+        end: edge(random, end, &[0, (1 << 31) + 1, u32::MAX]),
+        limit: edge(random, limit, &[0, 8_193, u32::MAX]),
+        cycle: any_cycle(random),
+    }
+}
+
+/// A start that is not refused.
+pub fn valid_start(random: &mut Random) -> Call {
+    Call::Start {
+        surface: random.below(8) as u32,
+        end: any_end(random),
+        limit: any_limit(random),
+        cycle: any_cycle(random),
+    }
+}
+
+pub fn any_end(random: &mut Random) -> u32 {
+    let any = random.any_width(1 << 31);
+    random.pick(&[1 << 31, 1 << 31, (1 << 31) - 1, 1 << 24, 100_000, any, any])
+}
+
+pub fn any_limit(random: &mut Random) -> u32 {
+    let any = random.any_width(8_192);
+    random.pick(&[8_192, 8_192, 8_191, 1_000, any, any])
+}
+
+pub fn any_cycle(random: &mut Random) -> u64 {
+    let near_last = u64::MAX - random.below(12);
+    let any = random.bits();
+    random.pick(&[0, 0, 1, any, any, any, near_last])
+}

@@ -1,0 +1,151 @@
+//! Entries that are just safe or just not.
+
+use super::edges::{nearest_ahead, nearest_behind, row_of};
+use super::Random;
+use crate::call::Call;
+use crate::carrier::Carrier;
+use crate::lane::Lane;
+
+/// How far an entry is from the nearest safe position: mostly not at all.
+const OFFSETS: [i128; 8] = [0, 0, 0, 0, 1, 1, -1, 2];
+
+/// An entry of any sort, refused ones among them.
+pub fn entry(random: &mut Random, lane: &Lane) -> Call {
+    let number = number(random, lane);
+    let speed = speed(random, lane);
+    let position = match random.below(10) {
+        0..=3 => behind(random, lane, speed),
+        4..=6 => ahead(random, lane, speed),
+        7 => near_end(random, lane),
+        8 => level(random, lane),
+        _ => random.below(u64::from(lane.end) + 2) as u32,
+    };
+    Call::Enter {
+        number,
+        position,
+        speed,
+    }
+}
+
+/// An entry at the back that succeeds, as tight as can be, unless the lane is
+/// full or has no room left.
+pub fn closing_up(random: &mut Random, lane: &Lane) -> Call {
+    let number = unused_number(random, lane);
+    let mut speed = speed(random, lane).min(lane.limit);
+    let position = match lane.present().last() {
+        Some(&rear) => {
+            let row = row_of(lane);
+            if nearest_behind(row, rear, speed) < 0 {
+                speed = 0;
+            }
+            let slack = random.pick(&[0, 0, 0, 1, 500]);
+            to_position(nearest_behind(row, rear, speed) - slack)
+        }
+        None => near_end(random, lane).min(lane.end.saturating_sub(1)),
+    };
+    Call::Enter {
+        number,
+        position,
+        speed,
+    }
+}
+
+fn to_position(position: i128) -> u32 {
+    position.clamp(0, u32::MAX.into()) as u32
+}
+
+fn neighbour(random: &mut Random, lane: &Lane, usual: usize) -> Option<Carrier> {
+    let present = lane.present();
+    let any = random.index(present.len().max(1));
+    let place = if random.chance(50) { usual } else { any };
+    present.get(place).copied()
+}
+
+fn behind(random: &mut Random, lane: &Lane, speed: u32) -> u32 {
+    let rear = lane.present().len().saturating_sub(1);
+    match neighbour(random, lane, rear) {
+        Some(leader) => {
+            let nearest = nearest_behind(row_of(lane), leader, speed);
+            to_position(nearest + random.pick(&OFFSETS))
+        }
+        None => near_end(random, lane),
+    }
+}
+
+fn ahead(random: &mut Random, lane: &Lane, speed: u32) -> u32 {
+    match neighbour(random, lane, 0) {
+        Some(follower) => {
+            let nearest = nearest_ahead(row_of(lane), follower, speed);
+            to_position(nearest - random.pick(&OFFSETS))
+        }
+        None => near_end(random, lane),
+    }
+}
+
+fn level(random: &mut Random, lane: &Lane) -> u32 {
+    neighbour(random, lane, 0).map_or(0, |carrier| carrier.position)
+}
+
+fn near_end(random: &mut Random, lane: &Lane) -> u32 {
+    let end = lane.end;
+    let within = random.below(u64::from(end).max(1)) as u32;
+    let close = end.saturating_sub(random.below(20_000) as u32);
+    let last = end.saturating_sub(1);
+    random.pick(&[last, last.saturating_sub(1), end, within, close])
+}
+
+/// Speeds about the multiples of the braking rates and about the limit.
+pub fn speed(random: &mut Random, lane: &Lane) -> u32 {
+    let row = row_of(lane);
+    let (b, hardest) = (row.guaranteed_braking, row.hardest_braking);
+    let times = 1 + random.below(9) as u32;
+    let within = random.below(u64::from(lane.limit) + 1) as u32;
+    let edges = [
+        0,
+        1,
+        times * b - 1,
+        times * b,
+        times * b + 1,
+        times * hardest - 1,
+        times * hardest,
+        lane.limit,
+        lane.limit.saturating_sub(1),
+        within,
+        within,
+    ];
+    if random.chance(2) {
+        random.pick(&[lane.limit.saturating_add(1), u32::MAX])
+    } else {
+        random.pick(&edges).min(lane.limit)
+    }
+}
+
+/// The number of a carrier present, or now and then of none.
+pub fn known_number(random: &mut Random, lane: &Lane) -> u16 {
+    match (neighbour(random, lane, 0), random.below(20)) {
+        (_, 0) => 0,
+        (_, 1) | (None, _) => unused_number(random, lane),
+        (Some(carrier), _) => carrier.number,
+    }
+}
+
+fn number(random: &mut Random, lane: &Lane) -> u16 {
+    match random.below(30) {
+        0 => 0,
+        1 => known_number(random, lane),
+        _ => unused_number(random, lane),
+    }
+}
+
+fn unused_number(random: &mut Random, lane: &Lane) -> u16 {
+    loop {
+        let number = match random.below(4) {
+            0 => u16::MAX - random.below(100) as u16,
+            1 => random.bits() as u16,
+            _ => 1 + random.below(200) as u16,
+        };
+        if number != 0 && lane.place_of(number).is_none() {
+            return number;
+        }
+    }
+}

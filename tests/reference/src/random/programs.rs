@@ -1,0 +1,108 @@
+//! Whole program inputs.
+
+use super::breaks::{break_line, LINE_BREAKS, TEXT_BREAKS};
+use super::histories::history;
+use super::Random;
+use crate::call::Call;
+use crate::program::LONGEST_INPUT;
+use crate::wish::Wish;
+
+/// The call text of a call; none for a reading, nor for a cycle whose count
+/// no text can hold.
+pub fn call_text(call: &Call) -> Option<String> {
+    match call {
+        Call::Start {
+            surface,
+            end,
+            limit,
+            cycle,
+        } => Some(format!(
+            "call=start\nsurface={surface}\nend={end}\nlimit={limit}\ncycle={cycle}\n"
+        )),
+        Call::Enter {
+            number,
+            position,
+            speed,
+        } => Some(format!(
+            "call=enter\ncar={number}\nat={position}\nspeed={speed}\n"
+        )),
+        Call::Leave { number } => Some(format!("call=leave\ncar={number}\n")),
+        Call::Cycle { count, wishes } => {
+            let wanted = wishes.get(..usize::try_from(*count).ok()?)?;
+            let wants: String = wanted.iter().map(want_line).collect();
+            Some(format!("call=cycle\ncars={count}\n{wants}"))
+        }
+        Call::LaneText { .. } => Some("call=show\n".to_string()),
+        Call::Read { .. } => None,
+    }
+}
+
+fn want_line(wish: &Wish) -> String {
+    match wish {
+        Wish::Units(units) => format!("want=units:{units}\n"),
+        Wish::Acceleration(bits) => format!("want=accel:{bits:08X}\n"),
+        Wish::TargetSpeed(bits) => format!("want=speed:{bits:08X}\n"),
+        Wish::Hold => "want=hold\n".to_string(),
+    }
+}
+
+/// A well-formed input of a random history, with refusals in it.
+pub fn program(random: &mut Random) -> Vec<u8> {
+    let length = random.pick(&[1, 4, 12, 40, 120]);
+    let mut text = String::new();
+    for call in history(random, length).calls {
+        let block = call_text(&call).unwrap_or_else(|| "call=show\n".to_string());
+        if text.len() + block.len() <= LONGEST_INPUT {
+            text.push_str(&block);
+        }
+    }
+    text.into_bytes()
+}
+
+/// A well-formed input of exactly the most bytes that are read.
+pub fn longest_program() -> Vec<u8> {
+    let leaves = "call=leave\ncar=1\n".repeat(8);
+    let shows = "call=show\n".repeat((LONGEST_INPUT - leaves.len()) / 10);
+    [leaves, shows].concat().into_bytes()
+}
+
+/// An input of more bytes than are read, by one or by many.
+pub fn oversize_program(random: &mut Random) -> Vec<u8> {
+    let surplus = random.pick(&["\n", "call=show\n", "call=leave\ncar=1\n"]);
+    let times = random.pick(&[1, 2, 1_000]);
+    [longest_program(), surplus.repeat(times).into_bytes()].concat()
+}
+
+/// An input broken in one way for which the program must end with refusal 8.
+pub fn malformed_program(random: &mut Random) -> Vec<u8> {
+    loop {
+        let text = program(random);
+        let broken = if random.chance(60) {
+            let line_break = random.pick(&LINE_BREAKS);
+            break_line(random, &text, line_break)
+        } else {
+            let text_break = random.pick(&TEXT_BREAKS);
+            text_break(random, &text)
+        };
+        if let Some(broken) = broken.filter(|broken| broken.len() <= LONGEST_INPUT) {
+            return broken;
+        }
+    }
+}
+
+/// An input with a few bytes changed, added or lost; it may still be well-formed.
+pub fn garbled_program(random: &mut Random) -> Vec<u8> {
+    let mut text = program(random);
+    for _ in 0..=random.below(3) {
+        let place = random.index(text.len().max(1));
+        let any = random.bits() as u8;
+        let byte = random.pick(&[b'0', b'1', b'9', b'-', b'=', b'\n', b'A', b':', any]);
+        match random.below(3) {
+            0 => text.insert(place, byte),
+            _ if place >= text.len() => (),
+            1 => text[place] = byte,
+            _ => drop(text.remove(place)),
+        }
+    }
+    text
+}

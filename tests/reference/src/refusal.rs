@@ -1,0 +1,40 @@
+//! The numbered refusals.
+
+/// Why a call, a text or a program input is refused.
+#[derive(Clone, Copy, Debug, PartialEq, Eq, PartialOrd, Ord, Hash)]
+pub enum Refusal {
+    SurfaceUnknown = 1,
+    EndOutOfRange = 2,
+    LimitOutOfRange = 3,
+    NumberZero = 4,
+    PositionPastEnd = 5,
+    SpeedAboveLimit = 6,
+    FloatOutOfRange = 7,
+    TextMalformed = 8,
+    BufferTooShort = 9,
+    InputTooLong = 10,
+    LaneUnsound = 21,
+    LaneFull = 22,
+    NumberPresent = 23,
+    NumberAbsent = 24,
+    UnsafeBehindLeader = 25,
+    FollowerUnsafe = 26,
+    CountDiffers = 27,
+    CyclesExhausted = 28,
+}
+
+impl Refusal {
+    /// The paper's number.
+    pub fn number(self) -> u32 {
+        self as u32
+    }
+
+    /// Refuses when `condition` holds.
+    pub fn when(self, condition: bool) -> Result<(), Refusal> {
+        if condition {
+            Err(self)
+        } else {
+            Ok(())
+        }
+    }
+}

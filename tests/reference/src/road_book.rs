@@ -1,0 +1,122 @@
+//! The road book: where carriers that drive as told are.
+//!
+//! It is fed with each call and its arguments and, of the answers, only with
+//! whether the call was refused and a cycle's word.
+
+mod checker;
+mod drive;
+
+pub use checker::{check_history, Checker};
+pub use drive::Drive;
+
+use crate::call::Call;
+use crate::carrier::Carrier;
+use crate::lane::{Lane, PLACES};
+use crate::surface::{self, Row};
+use crate::wish::Wish;
+
+/// What keeps an implementation from passing, in words.
+pub type Breach = String;
+
+/// Surface, end, limit and the carriers front to back.
+#[derive(Clone, Debug, PartialEq, Eq)]
+pub struct RoadBook {
+    pub surface: u32,
+    pub end: u32,
+    pub limit: u32,
+    pub carriers: Vec<Carrier>,
+}
+
+impl RoadBook {
+    /// The book of a history that begins with `first`, a lane without carriers.
+    pub fn new(first: &Lane) -> RoadBook {
+        RoadBook {
+            surface: first.surface,
+            end: first.end,
+            limit: first.limit,
+            carriers: Vec::new(),
+        }
+    }
+
+    /// Takes a call into the book. A cycle that ran although the book knows
+    /// no row or no units for it is a breach.
+    pub fn record(&mut self, call: &Call, refused: bool, word: u64) -> Result<(), Breach> {
+        if refused {
+            return Ok(());
+        }
+        match *call {
+            Call::Start {
+                surface,
+                end,
+                limit,
+                ..
+            } => {
+                *self = RoadBook {
+                    surface,
+                    end,
+                    limit,
+                    carriers: Vec::new(),
+                }
+            }
+            Call::Enter {
+                number,
+                position,
+                speed,
+            } => self.enter(Carrier {
+                number,
+                position,
+                speed,
+            }),
+            Call::Leave { number } => self.carriers.retain(|carrier| carrier.number != number),
+            Call::Cycle { ref wishes, .. } => {
+                let drives = self.drives(wishes, word)?;
+                self.carriers = drives.iter().map(Drive::end).collect();
+                self.carriers.retain(|carrier| carrier.position < self.end);
+            }
+            Call::Read { .. } | Call::LaneText { .. } => (),
+        }
+        Ok(())
+    }
+
+    /// What each carrier drives in a cycle: its trimmed wish, or guaranteed
+    /// braking where its bit is set.
+    pub fn drives(&self, wishes: &[Wish; PLACES], word: u64) -> Result<Vec<Drive>, Breach> {
+        let row = self.row()?;
+        let wished = self.trimmed(wishes)?;
+        let told = self.carriers.iter().zip(wished).enumerate();
+        let drives = told.map(|(place, (&carrier, wished))| Drive {
+            carrier,
+            acceleration: if word >> place & 1 == 1 {
+                carrier.braking(row.guaranteed_braking)
+            } else {
+                wished
+            },
+        });
+        Ok(drives.collect())
+    }
+
+    /// The wishes of the carriers, trimmed with the book's figures.
+    fn trimmed(&self, wishes: &[Wish; PLACES]) -> Result<Vec<i32>, Breach> {
+        let row = self.row()?;
+        let pairs = self.carriers.iter().zip(wishes);
+        pairs
+            .map(|(&carrier, wish)| {
+                wish.trimmed(row, self.limit, carrier)
+                    .ok_or_else(|| format!("a cycle ran on {wish:08X?}"))
+            })
+            .collect()
+    }
+
+    fn row(&self) -> Result<Row, Breach> {
+        surface::row(self.surface).ok_or_else(|| format!("a cycle ran on surface {}", self.surface))
+    }
+
+    /// The walk goes front to back to the first carrier with a lower position.
+    fn enter(&mut self, newcomer: Carrier) {
+        let mut place = 0;
+        while place < self.carriers.len() && self.carriers[place].position >= newcomer.position {
+            place += 1;
+        }
+        self.carriers.insert(place, newcomer);
+    }
+}

@@ -1,0 +1,125 @@
+//! Demand 3, checked after every call of a history.
+
+use super::{Breach, Drive, RoadBook};
+use crate::call::{Answer, Call};
+use crate::carrier::Carrier;
+use crate::headway::rests_behind;
+use crate::lane::{Lane, Supervisor, PLACES};
+use crate::stopping::Stopping;
+use crate::wish::Wish;
+
+/// Denominators whose fractions are all looked at.
+const DENOMINATORS: [i128; 4] = [1, 3, 7, 8];
+
+/// Fractions next to a cycle's start and end.
+const MARGINS: [(i128, i128); 2] = [(1, 1 << 32), ((1 << 32) - 1, 1 << 32)];
+
+/// Follows a history, of whichever implementation, with the road book.
+pub struct Checker {
+    book: RoadBook,
+}
+
+impl Checker {
+    /// For a history that begins with `first`, a lane without carriers.
+    pub fn new(first: &Lane) -> Checker {
+        Checker {
+            book: RoadBook::new(first),
+        }
+    }
+
+    /// Takes the next call, what it answered (the word counts for a cycle
+    /// only) and the carriers that the lane holds after it, front to back.
+    pub fn observe<S: Stopping>(
+        &mut self,
+        call: &Call,
+        refused: bool,
+        word: u64,
+        carriers: &[Carrier],
+    ) -> Result<(), Breach> {
+        if let (Call::Cycle { wishes, .. }, false) = (call, refused) {
+            apart_throughout(&self.book.drives(wishes, word)?)?;
+            self.replaced_rightly::<S>(wishes, word)?;
+        }
+        self.book.record(call, refused, word)?;
+        if carriers != self.book.carriers {
+            return Err(format!(
+                "carriers {carriers:?}, but the book has {:?}",
+                self.book.carriers
+            ));
+        }
+        in_order(carriers.iter().map(|carrier| carrier.position.into()))
+            .map_err(|place| format!("place {place} is not below the one ahead: {carriers:?}"))
+    }
+
+    /// A bit is set exactly if the wish leads to resting level or crossed;
+    /// with no carrier ahead, or no carrier at all, it is not set.
+    fn replaced_rightly<S: Stopping>(
+        &self,
+        wishes: &[Wish; PLACES],
+        word: u64,
+    ) -> Result<(), Breach> {
+        let row = self.book.row()?;
+        let carriers = &self.book.carriers;
+        let mut expected = 0;
+        for (place, wished) in self.book.trimmed(wishes)?.into_iter().enumerate().skip(1) {
+            let (leader, follower) = (carriers[place - 1], carriers[place]);
+            let crossed = !rests_behind::<S>(row, follower, wished, leader);
+            expected |= u64::from(crossed) << place;
+        }
+        if word == expected {
+            Ok(())
+        } else {
+            Err(format!("word {word:016X}, but {expected:016X} is right"))
+        }
+    }
+}
+
+/// Each carrier stays below every one ahead over the whole cycle. It is enough
+/// to look at neighbours, and between them at the closest approach; the other
+/// fractions are there to test that thought too.
+fn apart_throughout(drives: &[Drive]) -> Result<(), Breach> {
+    let whole = DENOMINATORS
+        .iter()
+        .flat_map(|&n| (0..=n).map(move |k| (k, n)));
+    for (k, n) in whole.chain(MARGINS) {
+        in_order(drives.iter().map(|drive| drive.scaled_position(k, n)))
+            .map_err(|place| format!("place {place} touches the one ahead at {k}/{n}"))?;
+    }
+    for pair in drives.windows(2) {
+        let (leader, follower) = (pair[0], pair[1]);
+        if let Some((k, n)) = follower.closest_approach(&leader) {
+            if follower.scaled_position(k, n) >= leader.scaled_position(k, n) {
+                return Err(format!("{follower:?} touches {leader:?} at {k}/{n}"));
+            }
+        }
+    }
+    Ok(())
+}
+
+/// Positions must fall from front to back; else the first place that doesn't.
+fn in_order(positions: impl Iterator<Item = i128>) -> Result<(), usize> {
+    let mut ahead = i128::MAX;
+    for (place, position) in positions.enumerate() {
+        if position >= ahead {
+            return Err(place);
+        }
+        ahead = position;
+    }
+    Ok(())
+}
+
+/// Runs `calls` on `lane`, which holds no carriers, and checks each of them.
+pub fn check_history<L: Supervisor>(mut lane: L, calls: &[Call]) -> Result<(), Breach> {
+    let mut checker = Checker::new(lane.lane());
+    for (index, call) in calls.iter().enumerate() {
+        let answer = lane.call(call);
+        let word = match answer {
+            Ok(Answer::Cycled(cycled)) => cycled.word,
+            _ => 0,
+        };
+        checker
+            .observe::<L::Stopping>(call, answer.is_err(), word, lane.lane().present())
+            .map_err(|breach| format!("call {index}, {call:?}: {breach}"))?;
+    }
+    Ok(())
+}

@@ -1,0 +1,131 @@
+//! Call texts: blocks of `key=value` lines in fixed order.
+
+use crate::call::Call;
+use crate::lane::{LONGEST_LANE_TEXT, PLACES};
+use crate::refusal::Refusal;
+use crate::wish::Wish;
+
+/// The most bytes of a line, with its newline.
+pub const LONGEST_LINE: usize = 64;
+
+/// Reads the first line of `text`, which must begin with `key=`: its value,
+/// a part of `text`, and what follows the line.
+pub fn line<'a>(text: &'a [u8], key: &str) -> Result<(&'a [u8], &'a [u8]), Refusal> {
+    let newline = text
+        .iter()
+        .take(LONGEST_LINE)
+        .position(|&byte| byte == b'\n')
+        .ok_or(Refusal::TextMalformed)?;
+    let value = text[..newline]
+        .strip_prefix(key.as_bytes())
+        .and_then(|rest| rest.strip_prefix(b"="))
+        .ok_or(Refusal::TextMalformed)?;
+    Ok((value, &text[newline + 1..]))
+}
+
+/// Reads the first block of `text` whole: its call, and what follows the block.
+pub fn block(text: &[u8]) -> Result<(Call, &[u8]), Refusal> {
+    let mut lines = Lines { rest: text };
+    let call = match lines.value("call")? {
+        b"start" => Call::Start {
+            surface: lines.number("surface")?,
+            end: lines.number("end")?,
+            limit: lines.number("limit")?,
+            cycle: lines.number("cycle")?,
+        },
+        b"enter" => Call::Enter {
+            number: lines.number("car")?,
+            position: lines.number("at")?,
+            speed: lines.number("speed")?,
+        },
+        b"leave" => Call::Leave {
+            number: lines.number("car")?,
+        },
+        b"cycle" => lines.cycle()?,
+        b"show" => Call::LaneText {
+            room: LONGEST_LANE_TEXT,
+        },
+        _ => return Err(Refusal::TextMalformed),
+    };
+    Ok((call, lines.rest))
+}
+
+/// The lines still to be read.
+struct Lines<'a> {
+    rest: &'a [u8],
+}
+
+impl<'a> Lines<'a> {
+    fn value(&mut self, key: &str) -> Result<&'a [u8], Refusal> {
+        let (value, rest) = line(self.rest, key)?;
+        self.rest = rest;
+        Ok(value)
+    }
+
+    /// A number that the field's type can hold.
+    fn number<T: TryFrom<u64>>(&mut self, key: &str) -> Result<T, Refusal> {
+        decimal(self.value(key)?)
+            .and_then(|number| T::try_from(number).ok())
+            .ok_or(Refusal::TextMalformed)
+    }
+
+    fn cycle(&mut self) -> Result<Call, Refusal> {
+        let count = self.number("cars")?;
+        Refusal::TextMalformed.when(count > PLACES as u64)?;
+        let mut wishes = Box::new([Wish::Hold; PLACES]);
+        for wanted in wishes.iter_mut().take(count as usize) {
+            *wanted = wish(self.value("want")?).ok_or(Refusal::TextMalformed)?;
+        }
+        Ok(Call::Cycle { count, wishes })
+    }
+}
+
+fn wish(value: &[u8]) -> Option<Wish> {
+    if value == b"hold" {
+        return Some(Wish::Hold);
+    }
+    let colon = value.iter().position(|&byte| byte == b':')?;
+    let figure = &value[colon + 1..];
+    match &value[..colon] {
+        b"units" => units(figure).map(Wish::Units),
+        b"accel" => float_bits(figure).map(Wish::Acceleration),
+        b"speed" => float_bits(figure).map(Wish::TargetSpeed),
+        _ => None,
+    }
+}
+
+/// A signed number; only one that is not 0 may carry a minus.
+fn units(figure: &[u8]) -> Option<i16> {
+    let number = match figure.strip_prefix(b"-") {
+        Some(digits) => -i64::try_from(decimal(digits).filter(|&number| number > 0)?).ok()?,
+        None => i64::try_from(decimal(figure)?).ok()?,
+    };
+    i16::try_from(number).ok()
+}
+
+/// A decimal number of at most 64 bits, without sign or leading zeros.
+fn decimal(digits: &[u8]) -> Option<u64> {
+    let leading_zero = digits.len() > 1 && digits[0] == b'0';
+    if digits.is_empty() || leading_zero {
+        return None;
+    }
+    digits.iter().try_fold(0_u64, |number, digit| {
+        let value = digit.checked_sub(b'0').filter(|&value| value <= 9)?;
+        number.checked_mul(10)?.checked_add(u64::from(value))
+    })
+}
+
+/// Eight upper-case hexadecimal digits.
+fn float_bits(digits: &[u8]) -> Option<u32> {
+    if digits.len() != 8 {
+        return None;
+    }
+    digits.iter().try_fold(0, |bits, &digit| {
+        let value = match digit {
+            b'0'..=b'9' => digit - b'0',
+            b'A'..=b'F' => digit - b'A' + 10,
+            _ => return None,
+        };
+        Some(bits << 4 | u32::from(value))
+    })
+}

@@ -1,0 +1,183 @@
+//! Random histories through the road book, and a road book that is awake.
+
+mod common;
+
+use common::{carrier, example_lane, wishes};
+use lane_reference::random::{call, history, sound_lane, unsound_lane, History, Random, EVEN};
+use lane_reference::road_book::{check_history, Checker, Drive};
+use lane_reference::stopping::{Fast, Summed};
+use lane_reference::{Answer, Call, Carrier, FastLane, Lane, Refusal, Supervisor, Wish};
+use std::collections::BTreeSet;
+
+#[test]
+fn histories_keep_to_the_road_book() {
+    for seed in 0..3_000 {
+        let History { first, calls } = history(&mut Random::new(seed), 130);
+        if let Err(breach) = check_history(FastLane(first), &calls) {
+            panic!("seed {seed}: {breach}");
+        }
+    }
+}
+
+#[test]
+fn summed_stopping_gives_the_same_answers() {
+    for seed in 10_000..10_150 {
+        let History { first, calls } = history(&mut Random::new(seed), 130);
+        assert_eq!(check_history(first, &calls), Ok(()), "seed {seed}");
+        let (mut summed, mut fast) = (first, FastLane(first));
+        for call in &calls {
+            assert_eq!(summed.call(call), fast.call(call), "seed {seed}");
+            assert_eq!(summed, fast.0, "seed {seed}");
+        }
+    }
+}
+
+/// Refusals 8 and 10 belong to texts alone.
+#[test]
+fn histories_reach_every_refusal_and_every_answer() {
+    let (mut refusals, mut sorts) = (BTreeSet::new(), BTreeSet::new());
+    let (mut full, mut gone, mut replaced, mut last_bit) = (0, 0, 0, 0);
+    for seed in 0..500 {
+        let History { first, calls } = history(&mut Random::new(seed), 130);
+        let mut lane = FastLane(first);
+        for call in &calls {
+            match lane.call(call) {
+                Err(refusal) => drop(refusals.insert(refusal.number())),
+                Ok(Answer::Cycled(cycled)) => {
+                    assert_eq!(cycled.replaced, cycled.word.count_ones());
+                    gone += cycled.gone;
+                    replaced += cycled.replaced;
+                    last_bit += cycled.word >> 63;
+                }
+                Ok(answer) => drop(sorts.insert(format!("{answer:?}")[..4].to_string())),
+            }
+            full += u32::from(lane.0.count == 64);
+        }
+    }
+    let every = (1..=7).chain([9]).chain(21..=28).collect();
+    assert_eq!(refusals, every);
+    assert_eq!(sorts.len(), 5, "{sorts:?}");
+    assert!(full > 1_000 && gone > 1_000 && replaced > 10_000 && last_bit > 100);
+}
+
+/// A refusal leaves the lane as it was, also one handed in unsound.
+#[test]
+fn lanes_handed_in_are_judged() {
+    let mut random = Random::new(7);
+    for _ in 0..5_000 {
+        let sound = sound_lane(&mut random);
+        assert!(sound.sound_row::<Fast>().is_ok(), "{sound:?}");
+        let unsound = unsound_lane(&mut random);
+        assert!(unsound.sound_row::<Fast>().is_err(), "{unsound:?}");
+        for lane in [sound, unsound] {
+            let call = call(&mut random, &lane, &EVEN);
+            let mut after = FastLane(lane);
+            let answer = after.call(&call);
+            if answer.is_err() {
+                assert_eq!(after.0, lane, "{call:?}");
+            } else {
+                assert!(after.0.sound_row::<Fast>().is_ok(), "{call:?} on {lane:?}");
+            }
+            if lane == unsound && !matches!(call, Call::Start { .. }) {
+                assert_eq!(answer, Err(Refusal::LaneUnsound), "{call:?}");
+            }
+        }
+    }
+}
+
+/// The example's cycle as an implementation might answer it.
+fn observed(word: u64, after: &Lane) -> Result<(), String> {
+    let first = common::lane(0, 10_000, 1_000, &[]);
+    let mut checker = Checker::new(&first);
+    let mut lane = first;
+    for (number, position, speed) in [(7, 1_000, 0), (8, 700, 64)] {
+        lane.enter(number, position, speed).expect("room");
+        let entry = Call::Enter {
+            number,
+            position,
+            speed,
+        };
+        checker.observe::<Summed>(&entry, false, 0, lane.present())?;
+    }
+    assert_eq!(lane, example_lane(1_000));
+    let cycle = Call::Cycle {
+        count: 2,
+        wishes: Box::new(wishes(&[Wish::Hold, Wish::Units(32)])),
+    };
+    checker.observe::<Summed>(&cycle, false, word, after.present())
+}
+
+#[test]
+fn the_checker_sees_a_wrong_bit_needless_braking_or_a_wrong_carrier() {
+    let mut right = example_lane(1_000);
+    right.carriers[1].position = 764;
+    right.carriers[1].speed = 0;
+    assert_eq!(observed(2, &right), Ok(()));
+    // Carrier 7 is at rest, so bit 0 would change nothing but the word.
+    for bit in 0..64 {
+        assert!(observed(2 ^ 1 << bit, &right).is_err(), "bit {bit}");
+    }
+    let wrong: [fn(&mut Lane); 6] = [
+        |lane| lane.carriers[1].position += 1,
+        |lane| lane.carriers[1].speed += 1,
+        |lane| lane.carriers[0].number = 9,
+        |lane| lane.carriers.swap(0, 1),
+        |lane| lane.count = 1,
+        |lane| lane.count = 3,
+    ];
+    for change in wrong {
+        let mut lane = right;
+        change(&mut lane);
+        assert!(observed(2, &lane).is_err(), "{lane:?}");
+    }
+    assert!(observed(2, &example_lane(1_000)).is_err(), "nobody moved");
+}
+
+/// The follower passes the leader half way and is behind again at the end, so
+/// a look at cycle ends alone finds nothing.
+#[test]
+fn the_checker_sees_a_touch_between_cycle_ends() {
+    let first = common::lane(0, 10_000, 1_000, &[]);
+    let mut checker = Checker::new(&first);
+    let mut before = vec![carrier(1, 10, 0)];
+    let entry = |carrier: Carrier| Call::Enter {
+        number: carrier.number,
+        position: carrier.position,
+        speed: carrier.speed,
+    };
+    let seen = checker.observe::<Summed>(&entry(before[0]), false, 0, &before);
+    assert_eq!(seen, Ok(()));
+    // Not safe, but an implementation might let it in.
+    before.push(carrier(2, 5, 32));
+    let seen = checker.observe::<Summed>(&entry(before[1]), false, 0, &before);
+    assert_eq!(seen, Ok(()));
+
+    let after = [carrier(1, 42, 32), carrier(2, 37, 0)];
+    let cycle = Call::Cycle {
+        count: 2,
+        wishes: Box::new(wishes(&[Wish::Units(32), Wish::Units(-32)])),
+    };
+    let seen = checker.observe::<Summed>(&cycle, false, 2, &after);
+    assert!(seen.is_err_and(|breach| breach.contains("touches")));
+}
+
+#[test]
+fn the_closest_approach_is_exact() {
+    let drive = |position, speed, acceleration| Drive {
+        carrier: carrier(1, position, speed),
+        acceleration,
+    };
+    let (leader, follower) = (drive(5, 0, 10), drive(0, 10, -10));
+    let (k, n) = follower.closest_approach(&leader).expect("within it");
+    assert_eq!((k, n), (10, 20));
+    let level = follower.scaled_position(k, n);
+    assert_eq!(leader.scaled_position(k, n), level, "they touch half way");
+    assert!(leader.end().position > follower.end().position);
+    let standing = drive(11, 0, 0);
+    assert_eq!(
+        follower.closest_approach(&standing),
+        None,
+        "the end is nearest"
+    );
+    assert_eq!(leader.closest_approach(&leader), None, "always as near");
+}

@@ -1,0 +1,250 @@
+//! Every numbered refusal of the calls, and the order of their checks.
+
+mod common;
+
+use common::{carrier, example_lane, full_lane, lane, wishes};
+use lane_reference::{Answer, Call, Lane, Refusal, Supervisor, Wish};
+
+const NAN: Wish = Wish::Acceleration(0x7FC00000);
+
+/// Asserts that the call is refused with `number` and leaves the lane as it was.
+fn refused(lane: &Lane, number: u32, call: Call) {
+    let mut after = *lane;
+    let answer = after.call(&call);
+    assert_eq!(answer.map_err(Refusal::number), Err(number), "{call:?}");
+    assert_eq!(after, *lane, "{call:?} changed the lane");
+}
+
+fn start(surface: u32, end: u32, limit: u32) -> Call {
+    let cycle = 5;
+    Call::Start {
+        surface,
+        end,
+        limit,
+        cycle,
+    }
+}
+
+fn enter(number: u16, position: u32, speed: u32) -> Call {
+    Call::Enter {
+        number,
+        position,
+        speed,
+    }
+}
+
+fn cycle(count: u64, first: &[Wish]) -> Call {
+    Call::Cycle {
+        count,
+        wishes: Box::new(wishes(first)),
+    }
+}
+
+#[test]
+fn start_refuses_1_2_3_in_order() {
+    for lane in [Lane::default(), example_lane(1_000)] {
+        refused(&lane, 1, start(8, 0, 0));
+        refused(&lane, 1, start(u32::MAX, 1, 1));
+        refused(&lane, 2, start(7, 0, 0));
+        refused(&lane, 2, start(0, (1 << 31) + 1, 8_193));
+        refused(&lane, 3, start(0, 1 << 31, 0));
+        refused(&lane, 3, start(7, 1, 8_193));
+    }
+}
+
+#[test]
+fn start_accepts_the_ends_of_its_ranges() {
+    for (surface, end, limit) in [(0, 1, 1), (7, 1 << 31, 8_192)] {
+        let mut lane = example_lane(1_000);
+        assert_eq!(lane.call(&start(surface, end, limit)), Ok(Answer::Started));
+        assert!(lane.started && lane.present().is_empty());
+        assert_eq!(
+            (lane.surface, lane.end, lane.limit, lane.cycle),
+            (surface, end, limit, 5)
+        );
+    }
+}
+
+#[test]
+fn a_lane_never_started_refuses_all_else_with_21() {
+    let lane = Lane::default();
+    refused(&lane, 21, enter(0, 0, 0));
+    refused(&lane, 21, Call::Leave { number: 0 });
+    refused(&lane, 21, cycle(9, &[]));
+    refused(&lane, 21, Call::Read { number: 0 });
+    refused(&lane, 21, Call::LaneText { room: 0 });
+}
+
+fn changed(change: impl Fn(&mut Lane)) -> Lane {
+    let mut lane = example_lane(1_000);
+    change(&mut lane);
+    lane
+}
+
+#[test]
+fn a_lane_that_breaks_a_rule_is_21() {
+    let broken = [
+        changed(|lane| lane.started = false),
+        changed(|lane| lane.surface = 8),
+        changed(|lane| lane.end = 0),
+        changed(|lane| lane.end = (1 << 31) + 1),
+        changed(|lane| lane.end = 1_000),
+        changed(|lane| lane.limit = 0),
+        changed(|lane| lane.limit = 8_193),
+        changed(|lane| lane.limit = 63),
+        changed(|lane| lane.count = 65),
+        changed(|lane| lane.count = u64::MAX),
+        changed(|lane| lane.carriers[0].number = 0),
+        changed(|lane| lane.carriers[1].number = 7),
+        changed(|lane| lane.carriers[0].speed = 1_001),
+        changed(|lane| lane.carriers[0].position = 10_000),
+        changed(|lane| lane.carriers[1].position = 1_000),
+        changed(|lane| lane.carriers[1].position = 1_000 - 64),
+        changed(|lane| lane.carriers.swap(0, 1)),
+    ];
+    for lane in broken {
+        refused(&lane, 21, enter(0, 0, 0));
+        refused(&lane, 21, Call::Leave { number: 0 });
+        refused(&lane, 21, cycle(9, &[]));
+        refused(&lane, 21, Call::Read { number: 0 });
+        refused(&lane, 21, Call::LaneText { room: 0 });
+        let mut started = lane;
+        assert_eq!(started.call(&start(0, 1, 1)), Ok(Answer::Started));
+    }
+}
+
+#[test]
+fn a_lane_just_within_the_rules_is_sound() {
+    let sound = [
+        changed(|lane| lane.end = 1_001),
+        changed(|lane| lane.limit = 64),
+        changed(|lane| lane.carriers[1].position = 1_000 - 65),
+        // Idle places may hold anything.
+        changed(|lane| lane.carriers[2] = carrier(7, u32::MAX, u32::MAX)),
+        full_lane(),
+    ];
+    for lane in sound {
+        assert!(lane.read(7).is_ok());
+    }
+}
+
+#[test]
+fn enter_checks_in_order() {
+    let lane = example_lane(1_000);
+    refused(&lane, 4, enter(0, 10_000, 1_001));
+    refused(&lane, 5, enter(7, 10_000, 1_001));
+    refused(&lane, 5, enter(9, u32::MAX, 0));
+    refused(&lane, 6, enter(7, 1_000, 1_001));
+    refused(&lane, 23, enter(7, 1_000, 0));
+    refused(&lane, 25, enter(9, 1_000, 0));
+    let full = full_lane();
+    refused(&full, 4, enter(0, 10_000, 1_001));
+    refused(&full, 5, enter(5, 10_000, 1_001));
+    refused(&full, 6, enter(5, 9_999, 1_001));
+    refused(&full, 22, enter(5, 999, 0));
+    refused(&full, 22, enter(500, 9_999, 0));
+}
+
+#[test]
+fn enter_is_safe_or_not_by_one() {
+    // S(64, 96) = 160: behind the standing leader from 839 down.
+    let lane = lane(0, 10_000, 1_000, &[(7, 1_000, 0)]);
+    refused(&lane, 25, enter(8, 840, 96));
+    assert_eq!(lane.clone().enter(8, 839, 96), Ok(1));
+    // Carrier 8 would rest at 999, so one standing at 1000 may go ahead of it.
+    let behind = common::lane(0, 10_000, 1_000, &[(8, 839, 96)]);
+    refused(&behind, 26, enter(7, 999, 0));
+    refused(&behind, 26, enter(7, 840, 0));
+    assert_eq!(behind.clone().enter(7, 1_000, 0), Ok(0));
+}
+
+#[test]
+fn enter_gives_the_place_and_shifts_the_rest() {
+    let mut lane = lane(
+        0,
+        10_000,
+        1_000,
+        &[(1, 3_000, 0), (2, 2_000, 0), (3, 1_000, 0)],
+    );
+    assert_eq!(lane.enter(4, 1_500, 0), Ok(2));
+    assert_eq!(lane.enter(5, 9_999, 1_000), Ok(0));
+    assert_eq!(lane.enter(6, 0, 0), Ok(5));
+    let numbers: Vec<u16> = lane
+        .present()
+        .iter()
+        .map(|carrier| carrier.number)
+        .collect();
+    assert_eq!(numbers, [5, 1, 2, 4, 3, 6]);
+}
+
+#[test]
+fn leave_checks_in_order() {
+    let mut lane = example_lane(1_000);
+    refused(&lane, 4, Call::Leave { number: 0 });
+    refused(&lane, 24, Call::Leave { number: 9 });
+    assert_eq!(lane.leave(7), Ok(()));
+    assert_eq!(lane.present(), [carrier(8, 700, 64)]);
+    refused(&lane, 24, Call::Leave { number: 7 });
+}
+
+#[test]
+fn cycle_checks_in_order() {
+    let mut lane = example_lane(1_000);
+    lane.cycle = u64::MAX;
+    refused(&lane, 27, cycle(3, &[NAN]));
+    refused(&lane, 27, cycle(1, &[NAN]));
+    refused(&lane, 28, cycle(2, &[NAN]));
+    lane.cycle = u64::MAX - 1;
+    refused(&lane, 7, cycle(2, &[NAN]));
+    refused(
+        &lane,
+        7,
+        cycle(2, &[Wish::Hold, Wish::Acceleration(0x41800001)]),
+    );
+    refused(
+        &lane,
+        7,
+        cycle(2, &[Wish::Hold, Wish::TargetSpeed(0x80000001)]),
+    );
+    assert!(lane
+        .call(&cycle(
+            2,
+            &[Wish::Hold, Wish::Acceleration(0x41800000), NAN]
+        ))
+        .is_ok());
+    assert_eq!(lane.cycle, u64::MAX);
+    refused(&lane, 28, cycle(2, &[]));
+}
+
+#[test]
+fn read_is_exact() {
+    let lane = lane(
+        7,
+        1 << 31,
+        8_192,
+        &[(65_535, (1 << 31) - 1, 8_191), (1, 1, 1)],
+    );
+    refused(&lane, 4, Call::Read { number: 0 });
+    refused(&lane, 24, Call::Read { number: 2 });
+    let front = lane.read(65_535).expect("present");
+    assert_eq!(front.position, 1_048_576.0 - 1.0 / 2048.0);
+    assert_eq!(front.speed, 64.0 - 1.0 / 128.0);
+    let rear = lane.read(1).expect("present");
+    assert_eq!((rear.position * 2048.0, rear.speed * 128.0), (1.0, 1.0));
+}
+
+#[test]
+fn lane_text_needs_its_length_and_leaves_the_rest() {
+    let lane = example_lane(1_000);
+    let text = b"cars=2\ncar=7\nat=1000\nspeed=0\ncar=8\nat=700\nspeed=64\n";
+    let mut buffer = vec![0xA5; text.len() + 3];
+    assert_eq!(lane.lane_text(&mut buffer), Ok(text.len()));
+    assert_eq!(&buffer[..text.len()], text);
+    assert_eq!(&buffer[text.len()..], [0xA5; 3]);
+
+    let mut exact = vec![0xA5; text.len()];
+    assert_eq!(lane.lane_text(&mut exact), Ok(text.len()));
+    let mut short = vec![0xA5; text.len() - 1];
+    assert_eq!(lane.lane_text(&mut short), Err(Refusal::BufferTooShort));
+    assert!(short.iter().all(|&byte| byte == 0xA5));
+}

@@ -1,0 +1,158 @@
+"""A story as an SVG space-time diagram."""
+
+WIDTH, HEIGHT = 960, 560
+LEFT, RIGHT, TOP, BOTTOM = 64, 24, 56, 48
+METRE, SECOND = 2048, 8  # a position counts 1/2048 m, a cycle is 1/8 s
+COLOURS = ("#1b6ca8", "#2e8b57", "#8e5ea2", "#b8860b", "#4a7c86", "#7a5c3e", "#5f6caf", "#a23b72")
+STYLE = """
+text { font: 12px sans-serif; fill: #333 }
+.number { font-weight: bold; stroke: white; stroke-width: 3px; paint-order: stroke }
+.grid { stroke: #e4e4e4 }
+.end { stroke: #333; stroke-dasharray: 6 4 }
+.track { fill: none; stroke-width: 2; stroke-linejoin: round }
+.replaced { fill: none; stroke: #d62728; stroke-width: 5; stroke-opacity: 0.55; stroke-linecap: round }
+.mark { stroke: white; stroke-width: 1.5 }
+.cross { stroke: #d62728; stroke-width: 2 }
+"""
+
+
+def svg(story):
+    return "\n".join(elements(story)) + "\n"
+
+
+def elements(story):
+    scale = Scale(story)
+    yield f'<svg xmlns="http://www.w3.org/2000/svg" viewBox="0 0 {WIDTH} {HEIGHT}" width="{WIDTH}" height="{HEIGHT}">'
+    yield f"<style>{STYLE}</style>"
+    yield f'<rect width="{WIDTH}" height="{HEIGHT}" fill="white"/>'
+    yield from legend()
+    yield from axes(scale)
+    for index, track in enumerate(story.tracks):
+        yield from carrier(scale, track, COLOURS[index % len(COLOURS)])
+    # Numbers go on top, so that no line runs through them.
+    for index, track in enumerate(story.tracks):
+        yield number(scale, track, COLOURS[index % len(COLOURS)])
+    for time, position, refusal in story.refusals:
+        yield from refused(scale.x(time), scale.y(position), refusal)
+    yield "</svg>"
+
+
+class Scale:
+    """From cycles and positions to places on the picture; the positions drawn are those that carriers come to."""
+
+    def __init__(self, story):
+        positions = [position for track in story.tracks for _, position in track.points]
+        positions += [position for _, position, _ in story.refusals]
+        reached = max(positions) - min(positions) or METRE
+        self.lane_end = story.lane_end
+        self.low = max(0, min(positions) - reached // 20)
+        self.high = min(story.lane_end, max(positions) + reached // 20)
+        self.time = max(1, story.time)
+
+    def x(self, time):
+        return LEFT + (WIDTH - LEFT - RIGHT) * time / self.time
+
+    def y(self, position):
+        return HEIGHT - BOTTOM - (HEIGHT - TOP - BOTTOM) * (position - self.low) / max(1, self.high - self.low)
+
+
+def steps(low, high):
+    """About eight round numbers from low to high."""
+    rough = max(high - low, 1e-9) / 8
+    power = 10.0
+    while power > rough:
+        power /= 10
+    while power * 10 <= rough:
+        power *= 10
+    step = next(power * factor for factor in (1, 2, 5, 10) if power * factor >= rough)
+    first = -int(-low // step)
+    return [step * index for index in range(first, int(high / step) + 1)]
+
+
+def axes(scale):
+    right, bottom = WIDTH - RIGHT, HEIGHT - BOTTOM
+    for seconds in steps(0, scale.time / SECOND):
+        x = scale.x(seconds * SECOND)
+        yield f'<line class="grid" x1="{x:.1f}" y1="{TOP}" x2="{x:.1f}" y2="{bottom}"/>'
+        yield f'<text x="{x:.1f}" y="{bottom + 18}" text-anchor="middle">{seconds:g}</text>'
+    for metres in steps(scale.low / METRE, scale.high / METRE):
+        y = scale.y(metres * METRE)
+        yield f'<line class="grid" x1="{LEFT}" y1="{y:.1f}" x2="{right}" y2="{y:.1f}"/>'
+        yield f'<text x="{LEFT - 8}" y="{y + 4:.1f}" text-anchor="end">{metres:g}</text>'
+    yield f'<text x="{(LEFT + right) / 2}" y="{HEIGHT - 10}" text-anchor="middle">time, s</text>'
+    yield f'<text transform="translate(18 {(TOP + bottom) / 2}) rotate(-90)" text-anchor="middle">position, m</text>'
+    if scale.lane_end <= scale.high:
+        y = scale.y(scale.lane_end)
+        yield f'<line class="end" x1="{LEFT}" y1="{y:.1f}" x2="{right}" y2="{y:.1f}"/>'
+        yield f'<text x="{right}" y="{y - 11:.1f}" text-anchor="end">lane end</text>'
+
+
+def carrier(scale, track, colour):
+    yield from (f'<polyline class="replaced" points="{line(scale, part)}"/>' for part in replaced_parts(track))
+    yield f'<polyline class="track" stroke="{colour}" points="{line(scale, track.points)}"/>'
+    (first_time, first), (last_time, last) = track.points[0], track.points[-1]
+    yield entry_mark(scale.x(first_time), scale.y(first), colour)
+    if track.end == "left":
+        yield exit_mark(scale.x(last_time), scale.y(last), colour)
+    elif track.end == "gone":
+        yield gone_mark(scale.x(last_time), scale.y(last), colour)
+
+
+def line(scale, points):
+    return " ".join(f"{scale.x(time):.1f},{scale.y(position):.1f}" for time, position in points)
+
+
+def replaced_parts(track):
+    """The pieces of a track in which its wish was replaced cycle after cycle."""
+    start = track.points[0][0]
+    parts = []
+    for time in track.replaced:
+        if parts and parts[-1][-1][0] == time:
+            parts[-1].append(track.points[time - start + 1])
+        else:
+            parts.append(track.points[time - start : time - start + 2])
+    return parts
+
+
+def number(scale, track, colour):
+    time, position = track.points[0]
+    return f'<text class="number" style="fill: {colour}" x="{scale.x(time) + 8:.1f}" y="{scale.y(position) + 15:.1f}">{track.number}</text>'
+
+
+def entry_mark(x, y, colour):
+    return f'<circle class="mark" cx="{x:.1f}" cy="{y:.1f}" r="5" fill="{colour}"/>'
+
+
+def exit_mark(x, y, colour):
+    return f'<rect class="mark" x="{x - 5:.1f}" y="{y - 5:.1f}" width="10" height="10" fill="{colour}"/>'
+
+
+def gone_mark(x, y, colour):
+    return f'<path class="mark" d="M{x:.1f},{y - 7:.1f} l6,10 h-12 z" fill="{colour}"/>'
+
+
+def cross(x, y):
+    return f'<path class="cross" d="M{x - 5:.1f},{y - 5:.1f} l10,10 m0,-10 l-10,10"/>'
+
+
+def refused(x, y, refusal):
+    yield cross(x, y)
+    yield f'<text class="number" style="fill: #d62728" x="{x + 8:.1f}" y="{y + 15:.1f}">no={refusal}</text>'
+
+
+def legend():
+    marks = (
+        (entry_mark, "enters"),
+        (exit_mark, "leaves"),
+        (gone_mark, "gone at the lane end"),
+    )
+    x, y = LEFT, 26
+    for mark, meaning in marks:
+        yield mark(x + 6, y - 4, "#555")
+        yield f'<text x="{x + 18}" y="{y}">{meaning}</text>'
+        x += 40 + 7 * len(meaning)
+    yield cross(x + 6, y - 4)
+    yield f'<text x="{x + 18}" y="{y}">entry refused</text>'
+    x += 130
+    yield f'<line class="replaced" x1="{x}" y1="{y - 4}" x2="{x + 24}" y2="{y - 4}"/>'
+    yield f'<text x="{x + 32}" y="{y}">wish replaced by braking</text>'
