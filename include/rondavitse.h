@@ -1,14 +1,15 @@
 /* Rondavitse: a supervisor for a lane of self-driving container carriers.
  *
- * A lane is a struct that goes in by value and comes back beside the answer. `no` is 0 where a call is accepted; else it is the number of
- * its refusal, every value beside it is zero, and the lane returned is the one handed in. Every function may be called with any numbers
- * and any lane. Positions count 1/2048 m, speeds 1/128 m/s, accelerations 1/16 m/s²; a cycle is 1/8 s.
+ * A lane is a struct that goes in by value and comes back beside the answer. `no` is 0 where a call is accepted; else it is the number
+ * of its refusal, every value beside it is zero, and the lane returned is the one handed in. Every function may be called with any
+ * numbers and any lane; a pointer must be to as many elements as the length beside it says and never null, and a buffer must not
+ * overlap what else is lent in the call. Positions count 1/2048 m, speeds 1/128 m/s, accelerations 1/16 m/s²; a cycle is 1/8 s.
  *
- * Refusals: 1 surface above 7; 2 lane end outside 1 to 2^31; 3 limit outside 1 to 8192; 4 carrier number 0; 5 position at or past the end;
- * 6 speed above the limit; 7 a float outside its range; 8 malformed text; 9 lane text longer than the buffer; 10 program input above 65,536
- * bytes; 11 a wish of no sort that exists, or units past 16 bits; 12 an array of wishes shorter than the count; 21 never started, or the
- * lane handed in breaks a rule; 22 64 carriers present; 23 number present; 24 number absent; 25 not safe behind the carrier ahead; 26 the
- * carrier behind not safe; 27 count differs from the carriers present; 28 cycle number is 2^64 - 1.
+ * Refusals: 1 surface above 7; 2 lane end outside 1 to 2^31; 3 limit outside 1 to 8192; 4 carrier number 0; 5 position at or past the
+ * end; 6 speed above the limit; 7 a float outside its range; 8 malformed text; 9 lane text longer than the buffer; 10 program input
+ * above 65,536 bytes; 11 a wish of no sort that exists, or units past 16 bits; 12 an array of wishes shorter than both the count and
+ * 64; 21 never started, or the lane handed in breaks a rule; 22 64 carriers present; 23 number present; 24 number absent; 25 not safe
+ * behind the carrier ahead; 26 the carrier behind not safe; 27 count differs from the carriers present; 28 cycle number is 2^64 - 1.
  */
 #ifndef RONDAVITSE_H
 #define RONDAVITSE_H
@@ -76,7 +77,7 @@ typedef struct {
 
 typedef struct {
     rondavitse_lane lane;
-    size_t next;    /* the place after the block */
+    size_t next;    /* the place after the block; where stop is set, the place handed in */
     size_t written; /* the bytes put at the buffer's start */
     bool stop;      /* nothing is left to run: the input has ended, its next block is malformed, or the buffer is too short */
 } rondavitse_stepped;
@@ -114,7 +115,8 @@ rondavitse_read_out rondavitse_read(rondavitse_lane lane, uint16_t number);
 rondavitse_listed rondavitse_lane_text(rondavitse_lane lane, uint8_t *out, size_t out_length);
 
 /* One block of call texts, read at a place of the input and run on the lane; its answer is put at the buffer's start, and the bytes after
- * it stay as they were. A buffer below 4,096 bytes is left alone, and nothing is run. */
+ * it stay as they were. A refused block's answer is `no=` and its number, 8 for a malformed one. A buffer
+ * below 4,096 bytes is left alone, and nothing is run. The input's length is not looked at: 10 is the program's alone. */
 rondavitse_stepped rondavitse_step(rondavitse_lane lane, const uint8_t *input, size_t input_length, size_t at, uint8_t *out,
                                    size_t out_length);
 

@@ -123,7 +123,7 @@ from input (suc n) {l} {at} (then c e k) h =
     rw (wrote c, f) (ap (λ (l : List ℕ). x c .output ++ l) (from input n k (fewer c n h e) ∙ ap₂ (outputFrom n) (gave c .state) (on c)))
 
 -- THE THEOREM: "The program reads standard input"; from the lane that `empty` gives and the input's start on, the calls print what the
--- definition says, whatever the input is
+-- definition says, whatever the input of at most 65,536 bytes is
 pub run-gives : (input : List ℕ) → length input ≤ 65536 → (l : Lane) → empty-reads.Learnt tt tt l tt → (out : List ℕ) → Ran input l 0 out
     → out ≡ outputOf input
 unfolding outputOf

@@ -80,6 +80,7 @@ pub extern "C" fn rondavitse_lane_text(l: Lane, out: &mut [u8]) -> Listed
     ensures number { λ r. ⌜ r .no ≡ textNo (stateOf l) (now (out .entry)) ⌝ }
     ensures length { λ r. ⌜ r .length ≡ textLength (stateOf l) (now (out .entry)) ⌝ }
     ensures bytes { λ r. ⌜ now (out .exit) ≡ textBytes (stateOf l) (now (out .entry)) ⌝ }
+    ensures room { λ r. ⌜ (r .no ≡ 9 → length (now (out .entry)) < 2635) ⌝ }
 {
     lane::lane_text(l, out)
 }
@@ -93,7 +94,7 @@ pub extern "C" fn rondavitse_step(l: Lane, input: &[u8], at: usize, out: &mut [u
     console::step(l, input, at, out)
 }
 
-// The wishes come as two arrays, of sorts and of values; the first `count` of each are looked at.
+// The wishes come as two arrays, of sorts and of values; the first `count` of each, at most 64, are looked at.
 #[no_mangle]
 pub extern "C" fn rondavitse_cycle(l: Lane, count: usize, sorts: &[u8], values: &[u32]) -> Cycled
     ensures number { λ r. ⌜ r .no ≡ ifAccepted (wishesNo count (now (sorts .entry)) (now (values .entry))) (cycleNo (stateOf l) count (wishesOf count (now (sorts .entry)) (now (values .entry)))) (wishesNo count (now (sorts .entry)) (now (values .entry))) ⌝ }

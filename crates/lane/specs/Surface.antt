@@ -12,7 +12,7 @@ unfoldable pub houseRows : List Row
 houseRows =
     row 64 128 32 ∷ row 56 120 32 ∷ row 48 112 24 ∷ row 40 96 24 ∷ row 32 96 16 ∷ row 16 64 12 ∷ row 6 48 8 ∷ row 1 255 1 ∷ []
 
--- the row of a code; zeros for a code above 7, which every call refuses
+-- the row of a code; zeros for a code above 7, which start refuses as an argument and every other call in a lane
 unfoldable pub rowOf : ℕ → Row
 unfolding houseRows
 rowOf code = getD houseRows code (row 0 0 0)

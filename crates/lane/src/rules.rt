@@ -75,9 +75,14 @@ fn any_repeated(carriers: [Carrier; 64], count: usize) -> bool
     let mut i: usize = 0;
     while i < count {
         let c = carriers[i];
-        let again = places::find_from(carriers, i + 1, count, c.number);
-        if again < count {
-            return true;
+        let mut j = i + 1;
+        // A call for each carrier would copy them all for each.
+        while j < count {
+            let other = carriers[j];
+            if other.number == c.number {
+                return true;
+            }
+            j += 1;
         }
         i += 1;
     }

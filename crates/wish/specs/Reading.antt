@@ -4,7 +4,7 @@ use mathlib.Core.Bool.{false}
 use lib.Ieee.{Float, binary64, round}
 use Rattle.wish.specs.declared.Reading.{Reading}
 
--- "doubles": the one nearest to p / d, which for these d is p / d itself
+-- "doubles": the one nearest to p / d, which for these d and a p of 32 bits is p / d itself
 unfoldable pub doubleOf : ℕ → ℕ → Float
 unfolding round
 doubleOf p d = round binary64 false p d
