@@ -115,8 +115,9 @@ rondavitse_read_out rondavitse_read(rondavitse_lane lane, uint16_t number);
 rondavitse_listed rondavitse_lane_text(rondavitse_lane lane, uint8_t *out, size_t out_length);
 
 /* One block of call texts, read at a place of the input and run on the lane; its answer is put at the buffer's start, and the bytes after
- * it stay as they were. A refused block's answer is `no=` and its number, 8 for a malformed one. A buffer
- * below 4,096 bytes is left alone, and nothing is run. The input's length is not looked at: 10 is the program's alone. */
+ * it stay as they were. A refused block's answer is `no=` and its number, 8 for a malformed one. A buffer below 4,096 bytes is left alone,
+ * and nothing is run. The lane returned is then, as after a refused block, the one handed in. The input's length is not looked at: 10 is
+ * the program's alone. */
 rondavitse_stepped rondavitse_step(rondavitse_lane lane, const uint8_t *input, size_t input_length, size_t at, uint8_t *out,
                                    size_t out_length);
 

@@ -11,7 +11,8 @@ use lib.ListN.{length, drop}
 use lib.Seq.{drop-drop}
 use Rattle.text.specs.Fields.{lineLength, hasLine, fieldIn, isNumber, valueIn}
 use Rattle.text.proofs.ReadLaws.{field-at-most}
-use Rattle.lane.specs.State.{State}
+use Rattle.lane.specs.declared.Lane.{Lane}
+use Rattle.lane.specs.State.{stateOf}
 use Rattle.console.specs.declared.Stepped.{Stepped}
 use Rattle.console.specs.Blocks.{Block, Parsed, parsed, malformed, past, afterLine, isLine, field}
 use Rattle.console.specs.Program.{ran, Gives}
@@ -76,12 +77,13 @@ module _ {input : List ℕ} {at place : ℕ} {whole : Parsed} where
         none-read r (rw i refl)
 
   -- the block is read whole, and then run
-  pub all-read : (s : State) (b : Block) → Reads input at place whole (λ t. parsed b 0) → {buffer out : List ℕ} {r : Stepped}
-      → Gives (ran s (parsed b 0)) place buffer r out → Gives (ran s whole) at buffer r out
-  all-read s b k g =
+  pub all-read : {b : Block} → Reads input at place whole (λ t. parsed b 0) → {l : Lane} {buffer out : List ℕ} {r : Stepped}
+      → Gives l (ran (stateOf l) (parsed b 0)) place buffer r out → Gives l (ran (stateOf l) whole) at buffer r out
+  all-read k g =
       rw (k .whole-is)
       (record {
         state = g .state;
+        kept = g .kept;
         next = g .next ∙ omega (arith, k .place-is);
         written-length = g .written-length;
         room = g .room;
@@ -90,9 +92,9 @@ module _ {input : List ℕ} {at place : ℕ} {whole : Parsed} where
       })
 
 -- a block read in another way gives what it gives
-pub read-as : (s : State) {whole p : Parsed} → whole ≡ p → {at : ℕ} {buffer out : List ℕ} {r : Stepped}
-    → Gives (ran s p) at buffer r out → Gives (ran s whole) at buffer r out
-read-as s e g = rw e g
+pub read-as : {whole p : Parsed} → whole ≡ p → {l : Lane} {at : ℕ} {buffer out : List ℕ} {r : Stepped}
+    → Gives l (ran (stateOf l) p) at buffer r out → Gives l (ran (stateOf l) whole) at buffer r out
+read-as e g = rw e g
 
 -- ---- a line of a key, as `read_line` tells of it
 module _ (key t : List ℕ) (at : ℕ) {ok : Bool} {next : ℕ}

@@ -1,27 +1,31 @@
--- THE WHOLE: `run-gives`, one theorem over every input that the program reads. Calls of `step` in turn, each as its own contract says,
--- print what specs/Program says of the whole input.
-use mathlib.Core.Path.{_≡_, sym, ap, ap₂, _∙_}
+-- THE WHOLE: `run-gives`, one theorem over every input. A call of `refuse_long` and then calls of `step` in turn, each as its own contract
+-- says, print what specs/Program says of the whole input.
+use mathlib.Core.Path.{_≡_, refl, sym, ap, ap₂, _∙_}
 use mathlib.Core.Bool.{Bool, true, false, cond, true≢false}
 use mathlib.Core.List.{List, [], _++_, append-nil}
 use Prim.Native.Nat.{ℕ, zero, suc, _+_, _≤_, _<_}
 use native.Mathlib.Nat.{le-refl, zero-add}
 use native.Mathlib.Decide.{decLt}
 use native.Mathlib.Omega.{arith}
-use borrow.Author.Tests.{le-ltb}
+use borrow.Author.Tests.{lt-ltb}
 use contract.Lifetimes.{Lfts}
 use denote.Ref.{RefT, now, at-last}
 use lib.ListN.{length, take, drop, length-drop}
-use lib.Seq.{drop-drop}
+use lib.Seq.{drop-drop, take-all, length-take-le}
 use Rattle.text.specs.Fields.{lineLength}
-use Rattle.text.proofs.Laws.{written-up-to}
+use Rattle.text.specs.Numbers.{decimal}
+use Rattle.text.proofs.Laws.{length-line, place-fits, written-up-to}
 use Rattle.lane.specs.declared.Lane.{Lane}
 use Rattle.lane.specs.State.{State, stateOf}
 use Rattle.lane.proofs.empty.Reads as empty-reads
 use Rattle.console.specs.declared.Stepped.{Stepped}
 use Rattle.console.specs.Blocks.{Block, show-block, Parsed, parsed, malformed, past, afterLine, isLine, call-start, call-enter, call-leave, call-cycle, call-show, startLines, enterLines, leaveLines, cycleLines, blockIn}
-use Rattle.console.specs.Program.{Step, ran, stepOf, Gives, outputFrom, outputOf}
+use Rattle.console.specs.Program.{Step, ran, stepOf, Gives, outputFrom, tooLong, lengthAnswer, outputOf}
+use Rattle.console.specs.Output.{no-key, refusal}
+use Rattle.console.proofs.Printing.{short-line}
 use Rattle.console.proofs.Steps.{step-into, at-end, at-block}
 use Rattle.console.proofs.step.Reads as step-reads
+use Rattle.console.proofs.refuse_long.Reads as long-reads
 
 -- what the contract of `step` says of a call on the lent input and a lent buffer that is long enough, and of the bytes left there
 pub record Called (input : List ℕ) (l : Lane) (at : ℕ) (r : Stepped) (left : List ℕ) : Type 0 where
@@ -85,8 +89,8 @@ module _ {input : List ℕ} {l : Lane} {at : ℕ} {r : Stepped} {left : List ℕ
   abbrev x : Step
   x = stepOf (stateOf l) (drop at input)
 
-  gave : Gives x at (now (c .out)) r left
-  gave = rw (c .text-is, step-into (now (c .out)) (stateOf l) (drop at input) (c .long)) at (c .says .0)
+  gave : Gives l x at (now (c .out)) r left
+  gave = rw (c .text-is, step-into (now (c .out)) (stateOf l) (drop at input) (c .long)) at (c .says)
 
   wrote : take (r .written) left ≡ x .output
   wrote =
@@ -122,10 +126,74 @@ from input (suc n) {l} {at} (then c e k) h =
     let f : stepOf (stateOf l) (drop at input) .stop ≡ false = sym (gave c .stop) ∙ e in
     rw (wrote c, f) (ap (λ (l : List ℕ). x c .output ++ l) (from input n k (fewer c n h e) ∙ ap₂ (outputFrom n) (gave c .state) (on c)))
 
--- THE THEOREM: "The program reads standard input"; from the lane that `empty` gives and the input's start on, the calls print what the
--- definition says, whatever the input of at most 65,536 bytes is
-pub run-gives : (input : List ℕ) → length input ≤ 65536 → (l : Lane) → empty-reads.Learnt tt tt l tt → (out : List ℕ) → Ran input l 0 out
-    → out ≡ outputOf input
-unfolding outputOf
-run-gives input h l e out r =
-    rw (le-ltb 65536 (length input) h) (from input (length input) r (le-refl (length input)) ∙ ap (λ (s : State). outputFrom (length input) s input) (ap stateOf e))
+-- ---- an input that is too long
+
+-- what the contract of `refuse_long` says of a call with the input's length and a lent buffer that is long enough
+pub record Measured (input : List ℕ) (w : ℕ) (left : List ℕ) : Type 0 where
+  pub κs : Lfts 1
+  pub out : RefT (List ℕ)
+  pub long : 4096 ≤ length (now out)
+  pub says : long-reads.Learnt κs (length input, (out, tt)) w (length input, (at-last out left, tt))
+
+-- this contract, too, asks nothing of its caller
+pub may-measure : (κs : Lfts 1) (bytes : ℕ) (out : RefT (List ℕ)) → long-reads.Asked κs (bytes, (out, tt))
+may-measure κs bytes out = tt
+
+-- all that is printed: the refusal where one is put, else what the calls of `step` write from the lane that `empty` gives on
+pub data Printed (input : List ℕ) : List ℕ → Type 0 where
+  refused : {w : ℕ} {left : List ℕ} → Measured input w left → 0 < w → Printed input (take w left)
+  accepted : {w : ℕ} {left : List ℕ} → Measured input w left → w ≡ 0 → {l : Lane} → empty-reads.Learnt tt tt l tt → {out : List ℕ} → Ran input l 0 out
+      → Printed input out
+
+ten : (1 ≤ length (refusal 10)) × (length (refusal 10) ≤ 29)
+unfolding refusal
+ten = (omega (arith, length-line no-key (decimal 10)), short-line no-key 10 (omega arith) (omega arith))
+
+module _ {input : List ℕ} {w : ℕ} {left : List ℕ} (m : Measured input w left) where
+  abbrev answer : List ℕ
+  answer = lengthAnswer (length input)
+
+  room : length answer ≤ length (now (m .out))
+  unfolding lengthAnswer
+  room = by-test (tooLong (length input))
+    where
+      by-test : (b : Bool) → length (cond b (refusal 10) []) ≤ length (now (m .out))
+      by-test true = omega (arith, ten, m .long)
+      by-test false = omega arith
+
+  put : w ≡ length answer
+  put = m .says .1 .0 ∙ place-fits 0 answer (now (m .out)) (omega (arith, room)) ∙ zero-add (length answer)
+
+  measured : take w left ≡ answer
+  measured = rw (put, m .says .0, ← zero-add (length answer)) (written-up-to 0 answer (now (m .out)) (omega (arith, room)))
+
+  -- a line is put exactly where the input is too long
+  long-if : (b : Bool) → tooLong (length input) ≡ b → 0 < w → b ≡ true
+  unfolding lengthAnswer
+  long-if true e h = refl
+  long-if false e h = absurd (omega (arith, rw e at put))
+
+  short-if : (b : Bool) → tooLong (length input) ≡ b → w ≡ 0 → b ≡ false
+  unfolding lengthAnswer
+  short-if true e h = absurd (omega (arith, ten, rw e at put))
+  short-if false e h = refl
+
+whole : (input out : List ℕ) → Printed input out → out ≡ outputOf input
+unfolding lengthAnswer outputOf
+whole input out (refused m h) = measured m ∙ rw (long-if m (tooLong (length input)) refl h) (sym (append-nil (refusal 10)))
+whole input out (accepted m h e r) =
+    rw (short-if m (tooLong (length input)) refl h) (from input (length input) r (le-refl (length input)) ∙ ap (λ (s : State). outputFrom (length input) s input) (ap stateOf e))
+
+-- the bytes past the 65,537th change nothing
+long-output : (t : List ℕ) → 65536 < length t → outputOf t ≡ refusal 10
+unfolding tooLong lengthAnswer outputOf
+long-output t h = rw (lt-ltb 65536 (length t) h) (append-nil (refusal 10))
+
+enough : (t : List ℕ) → Dec (65536 < length t) → outputOf (take 65537 t) ≡ outputOf t
+enough t (yes h) = long-output (take 65537 t) (omega (arith, length-take-le 65537 t (omega arith))) ∙ sym (long-output t h)
+enough t (no h) = let all : length t ≤ 65537 = omega arith in ap outputOf (take-all 65537 t all)
+
+-- THE THEOREM: "The program reads standard input", of which it takes one byte more than 65,536 at most: what it prints is what the
+-- definition says, whatever the input is
+pub run-gives : (input out : List ℕ) → Printed (take 65537 input) out → out ≡ outputOf input
+run-gives input out p = whole (take 65537 input) out p ∙ enough input (decLt 65536 (length input))

@@ -9,13 +9,12 @@ use borrow.Rule.Slice.PartMut.{midOf, putMid, mid-len, put-same}
 use lib.ListN.{length, drop, length-append, length-drop, take-append-drop, drop-of-length-le}
 use lib.Seq.{drop-drop}
 use Rattle.text.specs.Lines.{written, placeAfter}
-use Rattle.text.proofs.Laws.{length-written, place-fits, written-fits, written-before}
+use Rattle.text.proofs.Laws.{length-written, place-fits, written-fits, written-before, Put}
 use Rattle.lane.specs.State.{State}
 use Rattle.lane.specs.Calls.{broken}
 use Rattle.lane.specs.Listing.{laneText, textNo, textLength, textBytes}
 use Rattle.lane.proofs.Laws.{text-number, text-refused, text-length, text-bytes, text-room}
 use Rattle.console.specs.Output.{ok-show}
-use Rattle.console.proofs.Printing.{Put}
 
 -- the part from the 8th byte on
 abbrev pub part : List ℕ → List ℕ

@@ -32,10 +32,11 @@ at-block s t h = rw (ne-eqb (length t) 0 h) refl
 
 -- where nothing is done, nothing is put
 pub gives-halted : (l : Lane) (at : ℕ) (buffer : List ℕ)
-    → Gives (halted (stateOf l)) at buffer (record { lane = l; next = at; written = 0; stop = true }) buffer
+    → Gives l (halted (stateOf l)) at buffer (record { lane = l; next = at; written = 0; stop = true }) buffer
 gives-halted l at buffer =
     record {
       state = refl;
+      kept = λ k. refl;
       next = sym (add-zero at);
       written-length = refl;
       room = omega arith;

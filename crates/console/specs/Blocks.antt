@@ -1,7 +1,7 @@
 -- Document 01, "Call texts": the blocks that the program reads.
 use Prim.Native.Nat.{ℕ, zero, suc, _+_}
 use mathlib.Core.Bool.{Bool, true, false, _&&_, cond}
-use mathlib.Core.List.{List, [], _∷_, _++_}
+use mathlib.Core.List.{List, [], _∷_}
 use lib.Dec.{eqb}
 use lib.Ieee.{Float, binary32, ofBits}
 use lib.ListN.{length, drop}
@@ -75,6 +75,7 @@ bits64 = 18446744073709551615
 
 -- ---- blocks
 
+-- a block that can be run
 pub data Block : Type 0 where
   start-block : (surface end limit cycle : ℕ) → Block
   enter-block : (car at speed : ℕ) → Block
@@ -141,29 +142,36 @@ wishIn t =
     (cond (hasLine want-speed t) (floatWanted TargetSpeed (bitsIn (lineValue want-speed t)))
     (cond (isLine want-hold t) (Wanted Hold) Nothing)))
 
+-- a `want=` line
 unfoldable pub wantIn : List ℕ → Want
 wantIn t = cond (hasLine want-key t) (wishIn t) Nothing
 
+-- whether the line holds a wish
 abbrev pub isWish : Want → Bool
 isWish (Wanted w) = true
 isWish Nothing = false
 
+-- and which one
 abbrev pub wishOf : Want → Wish
 wishOf (Wanted w) = w
 wishOf Nothing = Hold
 
--- "so many lines `want=`", after those of the wishes in hand
-unfoldable pub wants : ℕ → (hand : List Wish) → List ℕ → Parsed
-wants zero hand t = parsed (cycle-block hand) 0
-wants (suc n) hand t =
-    cond (isWish (wantIn t)) (afterLine t (wants n (hand ++ (wishOf (wantIn t) ∷ [])))) malformed
+-- a line with a wish, and what follows it
+unfoldable pub want : List ℕ → (Wish → List ℕ → Parsed) → Parsed
+want t next = cond (isWish (wantIn t)) (afterLine t (next (wishOf (wantIn t)))) malformed
+
+-- "so many lines `want=`", and what follows them
+unfoldable pub wants : ℕ → List ℕ → (List Wish → List ℕ → Parsed) → Parsed
+wants zero t next = next [] t
+wants (suc n) t next = want t (λ w t. wants n t (λ ws. next (w ∷ ws)))
 
 -- "`call=cycle`, `cars` (0 to 64), and so many lines `want=`"
 unfoldable pub cycleLines : List ℕ → Parsed
-cycleLines t = field cars-key 64 t (λ cars. wants cars [])
+cycleLines t = field cars-key 64 t (λ cars t. wants cars t (λ ws t. parsed (cycle-block ws) 0))
 
 -- ---- "blocks of `key=value` lines in fixed order"
 
+-- the block that a text begins with, by its `call=` line
 unfoldable pub blockIn : List ℕ → Parsed
 blockIn t =
     cond (isLine call-start t) (afterLine t startLines)

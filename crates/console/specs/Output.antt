@@ -46,30 +46,33 @@ no-key = 110 ∷ 111 ∷ 61 ∷ []
 unfoldable pub refusal : ℕ → List ℕ
 refusal n = line no-key (decimal n)
 
--- what a call with the number n of its refusal, 0 where it is accepted, prints
-unfoldable pub answer : (n : ℕ) → (accepted : List ℕ) → List ℕ
-answer n accepted = cond (eqb n 0) accepted (refusal n)
-
 -- "Cycle (count, 64 wishes, of which the first count are looked at)": the block's wishes, and hold after them
 unfoldable pub sixtyFour : List Wish → List Wish
 sixtyFour ws = ws ++ replicate (64 - length ws) Hold
 
--- `ok=cycle`, "word in 16 upper-case hexadecimal digits; gone is the number gone"
-unfoldable pub cycleAnswer : State → List Wish → List ℕ
-cycleAnswer s ws =
-    answer (cycleNo s (length ws) (sixtyFour ws))
-    (ok-cycle
-    ++ line over-key (hexadecimal 16 (cycleWord s (length ws) (sixtyFour ws)))
-    ++ line gone-key (decimal (cycleGone s (length ws) (sixtyFour ws))))
+-- the number of a block's refusal, 0 where it is accepted; show is refused by 21 alone
+unfoldable pub blockNo : State → Block → ℕ
+blockNo s (start-block surface end limit cycle) = startNo surface end limit
+blockNo s (enter-block car at speed) = enterNo s (carrier car at speed)
+blockNo s (leave-block car) = namedNo s car
+blockNo s (cycle-block ws) = cycleNo s (length ws) (sixtyFour ws)
+blockNo s show-block = cond (broken s) 21 0
 
--- what a block prints; "The lane text is what `show` prints from `cars=` on", and show is refused by 21 alone
+-- what an accepted block prints: "word in 16 upper-case hexadecimal digits; gone is the number gone"; "The lane text is what `show` prints
+-- from `cars=` on"
+unfoldable pub accepted : State → Block → List ℕ
+accepted s (start-block surface end limit cycle) = ok-start
+accepted s (enter-block car at speed) = ok-enter ++ line place-key (decimal (enterPlace s (carrier car at speed)))
+accepted s (leave-block car) = ok-leave
+accepted s (cycle-block ws) =
+    ok-cycle
+    ++ line over-key (hexadecimal 16 (cycleWord s (length ws) (sixtyFour ws)))
+    ++ line gone-key (decimal (cycleGone s (length ws) (sixtyFour ws)))
+accepted s show-block = ok-show ++ laneText s
+
+-- "A refusal prints `no=` and its number": what a block prints
 unfoldable pub printed : State → Block → List ℕ
-printed s (start-block surface end limit cycle) = answer (startNo surface end limit) ok-start
-printed s (enter-block car at speed) =
-    answer (enterNo s (carrier car at speed)) (ok-enter ++ line place-key (decimal (enterPlace s (carrier car at speed))))
-printed s (leave-block car) = answer (namedNo s car) ok-leave
-printed s (cycle-block ws) = cycleAnswer s ws
-printed s show-block = answer (cond (broken s) 21 0) (ok-show ++ laneText s)
+printed s b = cond (eqb (blockNo s b) 0) (accepted s b) (refusal (blockNo s b))
 
 -- the lane's state after a block; show leaves it
 unfoldable pub stateAfter : State → Block → State

@@ -6,25 +6,30 @@ use mathlib.Core.List.{List, [], _++_}
 use lib.Dec.{eqb, leb, ltb}
 use lib.ListN.{length, drop}
 use Rattle.text.specs.Lines.{written}
+use Rattle.lane.specs.declared.Lane.{Lane}
 use Rattle.lane.specs.State.{State, stateOf}
 use Rattle.console.specs.declared.Stepped.{Stepped}
 use Rattle.console.specs.Blocks.{Parsed, parsed, malformed, blockIn}
-use Rattle.console.specs.Output.{refusal, printed, stateAfter}
+use Rattle.console.specs.Output.{refusal, blockNo, printed, stateAfter}
 
--- what one step does: the state after it, the bytes of the text that it takes, what it prints, and whether the program stops there
+-- what one step does: the state after it, whether it leaves the very lane, the records past the carriers too, the bytes of the text that it
+-- takes, what it prints, and whether the program stops there
 pub record Step : Type 0 where
   pub after : State
+  pub keeps : Bool
   pub used : ℕ
   pub output : List ℕ
   pub stop : Bool
 
+-- a step that does nothing, and the program stops
 abbrev pub halted : State → Step
-halted s = record { after = s; used = 0; output = []; stop = true }
+halted s = record { after = s; keeps = true; used = 0; output = []; stop = true }
 
--- "A block is read whole before it is run"; "after 8 the program reads no further"
+-- "A block is read whole before it is run"; "after 8 the program reads no further"; after a refusal "Lane, cycle number and lent bytes
+-- are unchanged"
 abbrev pub ran : State → Parsed → Step
-ran s (parsed b used) = record { after = stateAfter s b; used = used; output = printed s b; stop = false }
-ran s malformed = record { after = s; used = 0; output = refusal 8; stop = true }
+ran s (parsed b used) = record { after = stateAfter s b; keeps = ltb 0 (blockNo s b); used = used; output = printed s b; stop = false }
+ran s malformed = record { after = s; keeps = true; used = 0; output = refusal 8; stop = true }
 
 -- a step on a text, of which nothing is left at the end
 unfoldable pub stepOf : State → List ℕ → Step
@@ -34,9 +39,10 @@ stepOf s t = cond (eqb (length t) 0) (halted s) (ran s (blockIn t))
 unfoldable pub stepInto : (buffer : List ℕ) → State → List ℕ → Step
 stepInto buffer s t = cond (leb 4096 (length buffer)) (stepOf s t) (halted s)
 
--- what `step` at a place, with these bytes in the buffer, returns and leaves in the buffer when the step is x
-pub record Gives (x : Step) (at : ℕ) (buffer : List ℕ) (r : Stepped) (left : List ℕ) : Type 0 where
+-- what `step` on a lane and at a place, with these bytes in the buffer, returns and leaves in the buffer when the step is x
+pub record Gives (l : Lane) (x : Step) (at : ℕ) (buffer : List ℕ) (r : Stepped) (left : List ℕ) : Type 0 where
   pub state : stateOf (r .lane) ≡ x .after
+  pub kept : x .keeps ≡ true → r .lane ≡ l
   pub next : r .next ≡ at + x .used
   pub written-length : r .written ≡ length (x .output)
   pub room : length (x .output) ≤ length buffer
@@ -54,6 +60,14 @@ outputFrom (suc n) s t =
     let x = stepOf s t in
     x .output ++ cond (x .stop) [] (outputFrom n (x .after) (drop (x .used) t))
 
--- "10 program input above 65,536 bytes": it "is found first and is then all that is printed"; "Empty input prints nothing."
+-- "10 program input above 65,536 bytes"
+unfoldable pub tooLong : (bytes : ℕ) → Bool
+tooLong n = ltb 65536 n
+
+-- what an input of so many bytes is refused with, before a block is read
+unfoldable pub lengthAnswer : (bytes : ℕ) → List ℕ
+lengthAnswer n = cond (tooLong n) (refusal 10) []
+
+-- "10 is found first and is then all that is printed"; "Empty input prints nothing."
 unfoldable pub outputOf : List ℕ → List ℕ
-outputOf t = cond (ltb 65536 (length t)) (refusal 10) (outputFrom (length t) neverStarted t)
+outputOf t = lengthAnswer (length t) ++ cond (tooLong (length t)) [] (outputFrom (length t) neverStarted t)

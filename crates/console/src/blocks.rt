@@ -28,7 +28,7 @@ const BITS64: u64 = 0xFFFF_FFFF_FFFF_FFFF;
 fn start_block(l: Lane, input: &[u8], at: usize, first: usize, out: &mut [u8]) -> Stepped
     requires { ⌜ 4096 ≤ length (now out) ⌝ }
     requires { ⌜ first ≡ at + suc (lineLength (drop at (now input))) ⌝ }
-    ensures { λ r. ⌜ Gives (ran (stateOf l) (afterLine (drop at (now (input .entry))) startLines)) at (now (out .entry)) r (now (out .exit)) ⌝ }
+    ensures { λ r. ⌜ Gives l (ran (stateOf l) (afterLine (drop at (now (input .entry))) startLines)) at (now (out .entry)) r (now (out .exit)) ⌝ }
 {
     let surface = text::read_field(input, first, b"surface=", BITS32);
     if !surface.ok {
@@ -60,7 +60,7 @@ fn start_block(l: Lane, input: &[u8], at: usize, first: usize, out: &mut [u8]) -
 fn enter_block(l: Lane, input: &[u8], at: usize, first: usize, out: &mut [u8]) -> Stepped
     requires { ⌜ 4096 ≤ length (now out) ⌝ }
     requires { ⌜ first ≡ at + suc (lineLength (drop at (now input))) ⌝ }
-    ensures { λ r. ⌜ Gives (ran (stateOf l) (afterLine (drop at (now (input .entry))) enterLines)) at (now (out .entry)) r (now (out .exit)) ⌝ }
+    ensures { λ r. ⌜ Gives l (ran (stateOf l) (afterLine (drop at (now (input .entry))) enterLines)) at (now (out .entry)) r (now (out .exit)) ⌝ }
 {
     let car = text::read_field(input, first, b"car=", BITS16);
     if !car.ok {
@@ -87,7 +87,7 @@ fn enter_block(l: Lane, input: &[u8], at: usize, first: usize, out: &mut [u8]) -
 fn leave_block(l: Lane, input: &[u8], at: usize, first: usize, out: &mut [u8]) -> Stepped
     requires { ⌜ 4096 ≤ length (now out) ⌝ }
     requires { ⌜ first ≡ at + suc (lineLength (drop at (now input))) ⌝ }
-    ensures { λ r. ⌜ Gives (ran (stateOf l) (afterLine (drop at (now (input .entry))) leaveLines)) at (now (out .entry)) r (now (out .exit)) ⌝ }
+    ensures { λ r. ⌜ Gives l (ran (stateOf l) (afterLine (drop at (now (input .entry))) leaveLines)) at (now (out .entry)) r (now (out .exit)) ⌝ }
 {
     let car = text::read_field(input, first, b"car=", BITS16);
     if !car.ok {
@@ -99,7 +99,7 @@ fn leave_block(l: Lane, input: &[u8], at: usize, first: usize, out: &mut [u8]) -
 fn cycle_block(l: Lane, input: &[u8], at: usize, first: usize, out: &mut [u8]) -> Stepped
     requires { ⌜ 4096 ≤ length (now out) ⌝ }
     requires { ⌜ first ≡ at + suc (lineLength (drop at (now input))) ⌝ }
-    ensures { λ r. ⌜ Gives (ran (stateOf l) (afterLine (drop at (now (input .entry))) cycleLines)) at (now (out .entry)) r (now (out .exit)) ⌝ }
+    ensures { λ r. ⌜ Gives l (ran (stateOf l) (afterLine (drop at (now (input .entry))) cycleLines)) at (now (out .entry)) r (now (out .exit)) ⌝ }
 {
     let cars = text::read_field(input, first, b"cars=", 64);
     if !cars.ok {
@@ -124,7 +124,7 @@ fn cycle_block(l: Lane, input: &[u8], at: usize, first: usize, out: &mut [u8]) -
 
 pub(crate) fn block(l: Lane, input: &[u8], at: usize, out: &mut [u8]) -> Stepped
     requires { ⌜ 4096 ≤ length (now out) ⌝ }
-    ensures { λ r. ⌜ Gives (ran (stateOf l) (blockIn (drop at (now (input .entry))))) at (now (out .entry)) r (now (out .exit)) ⌝ }
+    ensures { λ r. ⌜ Gives l (ran (stateOf l) (blockIn (drop at (now (input .entry))))) at (now (out .entry)) r (now (out .exit)) ⌝ }
 {
     let start = whole_line(input, at, b"call=start");
     if start.ok {

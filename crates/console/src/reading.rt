@@ -50,20 +50,18 @@ fn units_wanted(digits: &[u8]) -> Want
     }
 }
 
-fn acceleration_wanted(digits: &[u8]) -> Want
-    ensures { λ r. ⌜ r ≡ floatWanted Acceleration (bitsIn (now (digits .entry))) ⌝ }
+// A float's bits: an acceleration, else a target speed.
+fn float_wanted(digits: &[u8], acceleration: bool) -> Want
+    ensures { λ r. ⌜ r ≡ floatWanted (cond acceleration Acceleration TargetSpeed) (bitsIn (now (digits .entry))) ⌝ }
 {
     match text::read_bits(digits) {
-        Number::Is(n) => Want::Wanted(Wish::Acceleration(text::float_of(n as u32))),
-        Number::Malformed => Want::Nothing,
-    }
-}
-
-fn speed_wanted(digits: &[u8]) -> Want
-    ensures { λ r. ⌜ r ≡ floatWanted TargetSpeed (bitsIn (now (digits .entry))) ⌝ }
-{
-    match text::read_bits(digits) {
-        Number::Is(n) => Want::Wanted(Wish::TargetSpeed(text::float_of(n as u32))),
+        Number::Is(n) => {
+            let x = text::float_of(n as u32);
+            if acceleration {
+                return Want::Wanted(Wish::Acceleration(x));
+            }
+            Want::Wanted(Wish::TargetSpeed(x))
+        }
         Number::Malformed => Want::Nothing,
     }
 }
@@ -76,10 +74,10 @@ fn wish_in(input: &[u8], at: usize) -> Want
         return units_wanted(text::line_value(input, at, b"want=units:"));
     }
     if text::read_line(input, at, b"want=accel:").ok {
-        return acceleration_wanted(text::line_value(input, at, b"want=accel:"));
+        return float_wanted(text::line_value(input, at, b"want=accel:"), true);
     }
     if text::read_line(input, at, b"want=speed:").ok {
-        return speed_wanted(text::line_value(input, at, b"want=speed:"));
+        return float_wanted(text::line_value(input, at, b"want=speed:"), false);
     }
     if whole_line(input, at, b"want=hold").ok {
         return Want::Wanted(Wish::Hold);

@@ -1,7 +1,7 @@
 -- The laws of two carriers: all that the crates above use of `specs/`, whose definitions they leave shut.
 -- b and B are any rates with 1 ≤ b ≤ B; nothing here knows of rows, places or lanes.
 use mathlib.Core.Path.{_≡_, refl, ap, _∙_, subst}
-use mathlib.Core.Bool.{Bool, true, false, _&&_}
+use mathlib.Core.Bool.{true, and-eq-true-iff}
 use Prim.Native.Nat.{ℕ, zero, suc, _+_, _-_, _*_, _/_, _%_, _^_, _≤_, _<_, min}
 use native.Mathlib.Nat.{add-zero}
 use native.Mathlib.Omega.{arith}
@@ -42,12 +42,6 @@ position-after p v a u e = position-is v a u e p
 pub braking-speed : (c v : ℕ) → pos v +ℤ braking c v ≡ pos (v - c)
 braking-speed = braked
 
--- an acceleration no harder than braking at some rate leads to a speed
-pub leads-to-speed : (c v : ℕ) (a : ℤ) → braking c v ≤ℤ a → pos v +ℤ a ≡ pos (speedAfter v a)
-leads-to-speed c v a h =
-    let d = driven c v a h in
-    rw (speed-is v a (d .0) (d .1)) (d .1)
-
 -- ---- the functions' outcomes for the numbers of the document
 
 pub safe-is : (b B p v pL vL : ℕ) → 1 ≤ b → 1 ≤ B → safeOf b B p v pL vL ≡ safeBehind b B p v pL vL
@@ -69,12 +63,6 @@ moved-to = moved-is
 pub comes-to-rest : (c v : ℕ) → 1 ≤ c → slowed v c v ≡ 0
 comes-to-rest c v hc = S.rests v c v hc (omega arith)
 
-pub stopping-mono : (c : ℕ) {v w : ℕ} → v ≤ w → stoppingDistance c v ≤ stoppingDistance c w
-stopping-mono c h = S.mono {c = c} {d = c} (omega arith) h
-
-pub stopping-antitone : {c d : ℕ} (v : ℕ) → c ≤ d → stoppingDistance d v ≤ stoppingDistance c v
-stopping-antitone v h = S.mono {v = v} {w = v} h (omega arith)
-
 -- one cycle of braking, and then the rest
 pub stopping-step : (c v : ℕ) → 1 ≤ c
     → stoppingDistance c v ≡ positionAfter 0 v (braking c v) + stoppingDistance c (speedAfter v (braking c v))
@@ -91,14 +79,6 @@ stopping-product = S.product
 
 -- ---- safe behind
 
-both : (s t : Bool) → s && t ≡ true → (s ≡ true) × (t ≡ true)
-both true true e = (refl, refl)
-both true false e = (refl, e)
-both false t e = (e, absurd (clash e))
-  where
-    clash : false ≡ true → ⊥
-    clash h = let z : _≡_ {A = ℕ} 0 1 = cc in omega arith
-
 pub record Safe (b B p v pL vL : ℕ) : Type 0 where
   pub below : p < pL
   pub stops-below : p + stoppingDistance b v < pL + stoppingDistance B vL
@@ -107,7 +87,7 @@ pub record Safe (b B p v pL vL : ℕ) : Type 0 where
 pub safe-says : (b B p v pL vL : ℕ) → safeBehind b B p v pL vL ≡ true → Safe b B p v pL vL
 unfolding safeBehind
 safe-says b B p v pL vL e =
-    let h = both (ltb p pL) (ltb (p + stoppingDistance b v) (pL + stoppingDistance B vL)) e in
+    let h = and-eq-true-iff (ltb p pL) (ltb (p + stoppingDistance b v) (pL + stoppingDistance B vL)) .0 e in
     record { below = ltb-true p pL (h .0); stops-below = ltb-true (p + stoppingDistance b v) (pL + stoppingDistance B vL) (h .1) }
 
 pub safe-holds : (b B p v pL vL : ℕ) → Safe b B p v pL vL → safeBehind b B p v pL vL ≡ true

@@ -1,6 +1,6 @@
 -- A speed v of 32 bits with an acceleration a of 64 bits, signed: what the machine computes of them, and whether v + a is a speed.
 use mathlib.Core.Path.{_≡_, refl, sym, ap₂, _∙_}
-use mathlib.Core.Bool.{Bool, true, false, _&&_, true≢false, false≢true}
+use mathlib.Core.Bool.{Bool, true, false, and-false, true≢false, false≢true}
 use Prim.Native.Nat.{ℕ, zero, suc, _+_, _-_, _^_, _≤_, _<_}
 use native.Mathlib.Omega.{arith}
 use borrow.Author.Tests.{lt-ltb, le-ltb, le-leb, ltb-true, ltb-false}
@@ -15,10 +15,6 @@ use Rattle.headway.specs.Totals.{isSpeed, movedOf}
 use Rattle.headway.specs.declared.Moved.the-variants.{To, Outside}
 use Rattle.headway.proofs.Integers.{pos-minus}
 use Rattle.headway.proofs.Motion.{speed-is, position-is}
-
-no-and : (t : Bool) → t && false ≡ false
-no-and true = refl
-no-and false = refl
 
 no-speed : (p v : ℕ) (a : ℤ) → isSpeed v a ≡ false → Outside ≡ movedOf p v a
 unfolding movedOf
@@ -37,7 +33,7 @@ past-32-bits : (v : ℕ) (a : ℤ) → ltZ (pos (4294967295 - v)) a ≡ true →
 unfolding isSpeed
 past-32-bits v (pos n) e =
     let h : 4294967295 - v < n = ltb-true (4294967295 - v) n e in
-    rw (le-ltb (v + n) 4294967296 (omega arith)) (no-and (leZ (pos 0) (pos (v + n))))
+    rw (le-ltb (v + n) 4294967296 (omega arith)) (and-false (leZ (pos 0) (pos (v + n))))
 past-32-bits v (negsuc n) e = absurd (false≢true e)
 
 -- v + a is the speed u

@@ -20,6 +20,7 @@ stopOf c v = cond (ltb 0 c) (Within (stoppingDistance c v)) Never
 unfoldable pub isSpeed : ℕ → ℤ → Bool
 isSpeed v a = leZ (pos 0) (pos v +ℤ a) && ltZ (pos v +ℤ a) (pos 4294967296)
 
+-- one cycle: where v + a is no speed there is none
 unfoldable pub movedOf : ℕ → ℕ → ℤ → Moved
 movedOf p v a = cond (isSpeed v a) (To (positionAfter p v a) (speedAfter v a)) Outside
 

@@ -4,10 +4,11 @@ use mathlib.Core.Bool.{Bool, true, false, _||_, cond}
 use mathlib.Core.List.{List, [], _∷_, _++_, append-assoc}
 use Prim.Native.Nat.{ℕ, suc, _+_, _-_, _≤_, _<_}
 use native.Mathlib.Numerals.{add-one}
+use native.Mathlib.Nat.{min-le-right}
 use native.Mathlib.Omega.{arith}
 use borrow.Author.Tests.{lt-ltb, le-ltb, ltb-false}
 use lib.Dec.{ltb}
-use lib.ListN.{length, getD, take, set, replicate}
+use lib.ListN.{length, getD, take, set, replicate, length-append, length-replicate}
 use lib.Seq.{slice, slice-empty, slice-cons, take-suc, set-at, length-take-le}
 use Rattle.wish.specs.declared.Wish.{Wish}
 use Rattle.wish.specs.declared.Wish.the-variants.{Hold}
@@ -106,3 +107,13 @@ module _ (sorts values : List ℕ) (i : ℕ) (ws : List Wish) (m : MadeUpTo sort
 pub all-made : (count : ℕ) (sorts values : List ℕ) (i : ℕ) (ws : List Wish) → i ≡ looked count → MadeUpTo sorts values i ws → ws ≡ wishesOf count sorts values
 unfolding wishesOf
 all-made count sorts values i ws e m = m ∙ rw e refl
+
+-- the wishes of a call without a number are sixty-four
+pub sixty-four : (count : ℕ) (sorts values : List ℕ) → wishesNo count sorts values ≡ 0 → length (wishesOf count sorts values) ≡ 64
+unfolding wishesOf
+sixty-four count sorts values e =
+    let n = looked count in
+    let f = enough count sorts values e in
+    let a = length-take-le n sorts (f .0) in
+    let b = length-take-le n values (f .1) in
+    rw (length-append, length-replicate, wishes-length (take n sorts) (take n values) (a ∙ sym b), a) (omega (arith, min-le-right count 64))

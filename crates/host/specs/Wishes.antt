@@ -25,10 +25,12 @@ madeOf sort value =
     (cond (eqb sort 2) (Of (TargetSpeed (ofBits binary32 value)))
     (cond (eqb sort 3) (Of Hold) Unknown)))
 
+-- whether the numbers make no wish
 abbrev pub isUnknown : Made → Bool
 isUnknown (Of w) = false
 isUnknown Unknown = true
 
+-- the wish that they make
 abbrev pub wishIn : Made → Wish
 wishIn (Of w) = w
 wishIn Unknown = Hold
@@ -37,11 +39,13 @@ wishIn Unknown = Hold
 abbrev pub looked : ℕ → ℕ
 looked count = min count 64
 
+-- the wishes of two arrays, one after another
 unfoldable pub wishesIn : (sorts values : List ℕ) → List Wish
 wishesIn [] values = []
 wishesIn (s ∷ sorts) [] = []
 wishesIn (s ∷ sorts) (v ∷ values) = wishIn (madeOf s v) ∷ wishesIn sorts values
 
+-- some pair of numbers makes no wish
 unfoldable pub anyUnknown : (sorts values : List ℕ) → Bool
 anyUnknown [] values = false
 anyUnknown (s ∷ sorts) [] = false

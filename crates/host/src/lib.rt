@@ -1,10 +1,11 @@
 // The supervisor for hosts in C, C++ or Rust: each call of the lane under a plain name, structs by value.
 ghost use mathlib.Core.Path.{_≡_};
 ghost use Prim.Native.Nat.{_<_};
+ghost use lib.Ieee.Exact.{HasValue};
 ghost use lib.ListN.{length, replicate, drop};
 ghost use mathlib.Core.Bool.{false};
 ghost use Rattle.lane.specs.State.{stateOf};
-ghost use Rattle.lane.specs.Calls.{carrier, none, ifAccepted, startNo, startState, enterNo, enterPlace, enterState, namedNo, leaveState, readReading, cycleNo, cycleWord, cycleReplaced, cycleGone, cycleState};
+ghost use Rattle.lane.specs.Calls.{carrier, none, ifAccepted, startNo, startState, enterNo, enterPlace, enterState, namedNo, leaveState, namedCarrier, readReading, cycleNo, cycleWord, cycleReplaced, cycleGone, cycleState};
 ghost use Rattle.lane.specs.Listing.{textNo, textLength, textBytes};
 ghost use Rattle.console.specs.Program.{stepInto, Gives};
 ghost use Rattle.host.specs.Wishes.{wishesNo, wishesOf};
@@ -71,6 +72,7 @@ pub extern "C" fn rondavitse_leave(l: Lane, number: u16) -> Changed
 pub extern "C" fn rondavitse_read(l: Lane, number: u16) -> ReadOut
     ensures number { λ r. ⌜ r .no ≡ namedNo (stateOf l) number ⌝ }
     ensures reading { λ r. ⌜ r .reading ≡ readReading (stateOf l) number ⌝ }
+    ensures exact { λ r. ⌜ (r .no ≡ 0 → HasValue (r .reading .position) false (namedCarrier (stateOf l) number .position) 2048 × HasValue (r .reading .speed) false (namedCarrier (stateOf l) number .speed) 128) ⌝ }
 {
     lane::read(l, number)
 }
@@ -88,8 +90,7 @@ pub extern "C" fn rondavitse_lane_text(l: Lane, out: &mut [u8]) -> Listed
 // One block of call texts, as the program runs it.
 #[no_mangle]
 pub extern "C" fn rondavitse_step(l: Lane, input: &[u8], at: usize, out: &mut [u8]) -> Stepped
-    ensures gives { λ r. ⌜ Gives (stepInto (now (out .entry)) (stateOf l) (drop at (now (input .entry)))) at (now (out .entry)) r (now (out .exit)) ⌝ }
-    ensures idle { λ r. ⌜ (length (now (out .entry)) < 4096 → r .lane ≡ l) ⌝ }
+    ensures { λ r. ⌜ Gives l (stepInto (now (out .entry)) (stateOf l) (drop at (now (input .entry)))) at (now (out .entry)) r (now (out .exit)) ⌝ }
 {
     console::step(l, input, at, out)
 }

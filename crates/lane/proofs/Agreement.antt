@@ -12,6 +12,7 @@ use Rattle.lane.specs.Surface.{rowOf}
 use Rattle.lane.specs.State.{State, stateOf}
 use Rattle.lane.specs.Wishes.{replacedIn, wordOf}
 use Rattle.lane.specs.Calls.{carrier, startNo, startState, enterNo, enterState, namedNo, leaveState, cycleNo, cycleDrives, cycleWord, cycleState}
+use Rattle.lane.specs.Listing.{textNo}
 use Rattle.lane.specs.Book.{Call, start-call, enter-call, leave-call, cycle-call, read-call, text-call, Book, begun, holding, taken, booked}
 use Rattle.lane.specs.Claims.{InOrder, CycleClaims}
 use Rattle.lane.proofs.Books.{put-in, take-out}
@@ -70,14 +71,14 @@ after (cycle-call count wishes) s = cycleState s count wishes
 after (read-call number) s = s
 after (text-call buffer) s = s
 
--- its number and, of a cycle, its word; a lane text may have any number
+-- its number and, of a cycle, its word
 abbrev pub Answered : Call → State → (refusal word : ℕ) → Type 0
 Answered (start-call surface end limit cycle) s refusal word = refusal ≡ startNo surface end limit
 Answered (enter-call number position speed) s refusal word = refusal ≡ enterNo s (carrier number position speed)
 Answered (leave-call number) s refusal word = refusal ≡ namedNo s number
 Answered (cycle-call count wishes) s refusal word = (refusal ≡ cycleNo s count wishes) × (word ≡ cycleWord s count wishes) × (length wishes ≡ 64)
 Answered (read-call number) s refusal word = refusal ≡ namedNo s number
-Answered (text-call buffer) s refusal word = Unit {0}
+Answered (text-call buffer) s refusal word = refusal ≡ textNo s buffer
 
 pub record Stepped (x : Call) (s : State) (b : Book) (refused : Bool) (word : ℕ) : Type 0 where
   pub agree : Agree (after x s) (booked (record { call = x; refused = refused; word = word }) b)

@@ -6,7 +6,7 @@ use Prim.Native.Nat.{ℕ, suc, _+_, _-_, _≤_, _<_}
 use native.Mathlib.Omega.{arith}
 use borrow.Author.Tests.{ne-eqb, eqb-true, eqb-false, ltb-true, not-false}
 use lib.Dec.{eqb, ltb, leb}
-use lib.ListN.{length, getD, take, drop, length-append, length-take, length-drop}
+use lib.ListN.{length, take, drop, length-append, length-take, length-drop}
 use lib.Seq.{length-take-le}
 use Rattle.wish.specs.Reading.{readingOf}
 use Rattle.wish.specs.declared.Wish.{Wish}
@@ -17,34 +17,11 @@ use Rattle.lane.specs.Surface.{rowOf}
 use Rattle.lane.specs.State.{State, stateOf}
 use Rattle.lane.specs.Safety.{nobody, anyOf, numbered}
 use Rattle.lane.specs.Wishes.{drives, anyOutside, replacedIn, wordOf, countOf}
-use Rattle.lane.specs.Calls.{broken, withCarriers, ifAccepted, startNo, startState, walk, none, enterNo, insertAt, enterPlace, enterState, namedNo, placeOf, namedPlace, removeAt, leaveState, readReading, cycleDrives, cycleNo, cycleWord, cycleReplaced, cycleCarriers, cycleGone, cycleState}
+use Rattle.lane.specs.Calls.{broken, withCarriers, startNo, startState, walk, enterNo, insertAt, enterPlace, enterState, namedNo, placeOf, namedPlace, namedCarrier, removeAt, leaveState, readReading, cycleDrives, cycleNo, cycleWord, cycleReplaced, cycleCarriers, cycleGone, cycleState}
+use Rattle.lane.proofs.Laws.{refused-has, accepted-has}
 use Rattle.lane.proofs.Passed.{passed}
 use Rattle.lane.proofs.Search.{place-any, place-le}
 use Rattle.lane.proofs.Soundness.{Sound, sound}
-
--- ---- a call's number
-
-pub refused-has : {A : Type 0} (n : ℕ) (x y : A) → (n ≡ 0 → ⊥) → ifAccepted n x y ≡ y
-refused-has n x y h = rw (ne-eqb n 0 h) refl
-
-pub accepted-has : {A : Type 0} (n : ℕ) (x y : A) → n ≡ 0 → ifAccepted n x y ≡ x
-accepted-has n x y e = rw e refl
-
--- a state with its cycle number, count and carriers set
-abbrev set-to : State → (cycle n : ℕ) → List Carrier → State
-set-to s cycle n cs =
-    record {
-      started = s .started;
-      surface = s .surface;
-      end = s .end;
-      limit = s .limit;
-      cycle = cycle;
-      count = n;
-      carriers = cs;
-    }
-
-pub state-with : (s : State) (cycle n : ℕ) (cs ds : List Carrier) → n ≡ length ds → cs ≡ ds → set-to s cycle n cs ≡ set-to s cycle (length ds) ds
-state-with s cycle n cs ds p q = rw (p, q) refl
 
 -- ---- start
 module _ (s : State) (surface end limit cycle n : ℕ) (e : n ≡ startNo surface end limit) where
@@ -125,9 +102,9 @@ module _ (s : State) (number n : ℕ) (e : n ≡ namedNo s number) where
     unfolding leaveState
     leave-accepted = rw named-place (rw (← e) (sym (accepted-has n _ s h)))
 
-    pub read-accepted : let c = getD (s .carriers) (namedPlace s number) none in readingOf (c .position) (c .speed) ≡ readReading s number
+    pub read-accepted : let c = namedCarrier s number in readingOf (c .position) (c .speed) ≡ readReading s number
     unfolding readReading
-    read-accepted = rw named-place (rw (← e) (sym (accepted-has n _ (readingOf 0 0) h)))
+    read-accepted = rw (← e) (sym (accepted-has n _ (readingOf 0 0) h))
 
 -- the place of an accepted call is one of a lane's carriers
 pub record At (l : Lane) (place : ℕ) : Type 0 where
@@ -148,11 +125,10 @@ length-removed place cs h =
 
 -- ---- cycle
 
--- what is driven, as the code names the row, the count and the records
-pub drives-are : (s : State) (r : Row) (count : ℕ) (cs : List Carrier) (ws : List Wish) → r ≡ rowOf (s .surface) → count ≡ s .count
-    → take (s .count) cs ≡ s .carriers → drives r (s .limit) nobody (take count cs) (take count ws) ≡ cycleDrives s ws
+-- what is driven, as the code names the row
+pub drives-are : (s : State) (r : Row) (ws : List Wish) → r ≡ rowOf (s .surface) → drives r (s .limit) nobody (s .carriers) (take (s .count) ws) ≡ cycleDrives s ws
 unfolding cycleDrives
-drives-are s r count cs ws e f g = rw (e, f, g) refl
+drives-are s r ws e = rw e refl
 
 -- the checks before the wishes are looked at give n
 module _ (s : State) (count : ℕ) (ws : List Wish) (n : ℕ)

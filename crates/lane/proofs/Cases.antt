@@ -6,7 +6,7 @@ use mathlib.Core.List.{List, [], _∷_, map}
 use Prim.Native.Nat.{ℕ}
 use lib.IntN.{pos}
 use lib.Ieee.{binary32, ofBits}
-use lib.ListN.{getD, List·getD-map}
+use lib.ListN.{getD, replicate, List·getD-map}
 use Rattle.headway.specs.Motion.{speedAfter, positionAfter}
 use Rattle.headway.specs.Stopping.{braking, gained, stoppingDistance, safeBehind}
 use Rattle.headway.specs.Wishes.{restsBehind}
@@ -18,11 +18,12 @@ use Rattle.wish.specs.declared.Wish.the-variants.{Units, Acceleration, Hold}
 use Rattle.wish.proofs.Cases as Accelerations
 use Rattle.wish.proofs.Cases.{accelerationCases}
 use Rattle.lane.specs.declared.Carrier.{Carrier}
+use Rattle.lane.specs.declared.Lane.{Lane}
 use Rattle.lane.specs.Surface.{rowOf}
-use Rattle.lane.specs.State.{State}
+use Rattle.lane.specs.State.{State, stateOf}
 use Rattle.lane.specs.Safety.{safeWith, safeFrom, laneSafe, anyOf, firstPlace, repeats}
 use Rattle.lane.specs.Wishes.{trimmedWish, stands, drive, drives, moved, allMoved, anyOutside, wordOf, remaining}
-use Rattle.lane.specs.Calls.{carrier, broken, cycleDrives, cycleNo, cycleWord, cycleState}
+use Rattle.lane.specs.Calls.{none, carrier, broken, startNo, startState, walk, gapNo, enterNo, enterState, cycleDrives, cycleNo, cycleWord, cycleState}
 
 -- what a case gives
 pub data Value : Type 0 where
@@ -49,18 +50,14 @@ pub record Entry : Type 0 where
 abbrev pub entry : Case → Value → Entry
 entry c v = record { shown = c; gives = v }
 
+-- an empty lane, never started
+abbrev never : Lane
+never = record { started = false; surface = 0; end = 0; limit = 0; cycle = 0; count = 0; carriers = replicate 64 none }
+
 -- "start 0, 10000, 1000, 0; enter 7 at .. speed 0; enter 8 at 700 speed 64"
 abbrev example-lane : ℕ → State
 example-lane position =
-    record {
-      started = true;
-      surface = 0;
-      end = 10000;
-      limit = 1000;
-      cycle = 0;
-      count = 2;
-      carriers = carrier 7 position 0 ∷ carrier 8 700 64 ∷ [];
-    }
+    enterState (enterState (startState (stateOf never) 0 10000 1000 0) (carrier 7 position 0)) (carrier 8 700 64)
 
 -- "cycle of 2 with `hold` and `units:32`"
 abbrev example-wishes : List Wish
@@ -92,7 +89,7 @@ table =
 
 -- the whole table, by one computation
 computed : map (λ (e : Entry). value (e .shown)) table ≡ map (λ (e : Entry). e .gives) table
-unfolding value table accelerationCases stoppingDistance gained braking speedAfter positionAfter safeBehind restsBehind unitsOf ofBits trimmedTo rowOf safeWith safeFrom laneSafe anyOf firstPlace repeats trimmedWish stands drive drives moved allMoved anyOutside wordOf remaining broken cycleDrives cycleNo cycleWord cycleState
+unfolding value table accelerationCases startNo startState walk gapNo enterNo enterState stoppingDistance gained braking speedAfter positionAfter safeBehind restsBehind unitsOf ofBits trimmedTo rowOf safeWith safeFrom laneSafe anyOf firstPlace repeats trimmedWish stands drive drives moved allMoved anyOutside wordOf remaining broken cycleDrives cycleNo cycleWord cycleState
 computed = refl
 
 -- and so each of its entries

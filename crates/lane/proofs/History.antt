@@ -1,7 +1,7 @@
 -- Demand 3, whole: `history`, one theorem over every list of calls. Its words are those of specs/Book, specs/Claims and specs/History;
 -- a call's answer is what the called function's own contract says of it.
 use Prim.Native.Nat.{ℕ}
-use mathlib.Core.Path.{_≡_, refl, sym, subst}
+use mathlib.Core.Path.{_≡_, refl, sym, ap, _∙_, subst}
 use mathlib.Core.List.{List, [], _∷_}
 use contract.Lifetimes.{Lfts}
 use denote.Ref.{RefT, now, at-last}
@@ -9,6 +9,7 @@ use lib.ListN.{length}
 use Rattle.wish.specs.declared.Wish.{Wish}
 use Rattle.lane.specs.declared.Lane.{Lane}
 use Rattle.lane.specs.State.{State, stateOf}
+use Rattle.lane.specs.Listing.{textNo}
 use Rattle.lane.specs.Book.{Call, start-call, enter-call, leave-call, cycle-call, read-call, text-call, Book, begun, booked}
 use Rattle.lane.specs.Claims.{Claims}
 use Rattle.lane.specs.History.{Told, Reply, laneAfter, numberOf, wordIn, Entry, seen, Throughout}
@@ -52,14 +53,14 @@ pub data Ran : Lane → List Entry → Lane → Type 0 where
       → Ran l (e ∷ es) d
 
 -- a contract gives the number, the word and the state afterwards
-answered : (x : Call) (l : Lane) (a : Reply x) → Did x l a
+pub answered : (x : Call) (l : Lane) (a : Reply x) → Did x l a
     → Answered x (stateOf l) (numberOf x a) (wordIn x a) × (stateOf (laneAfter x l a) ≡ after x (stateOf l))
 answered (start-call surface end limit cycle) l a d = (d .0, d .1 .0)
 answered (enter-call number position speed) l a d = (d .0, d .1 .1 .0)
 answered (leave-call number) l a d = (d .0, d .1 .0)
 answered (cycle-call count wishes) l a d = ((d .1 .0, d .1 .1 .0, d .0), d .1 .1 .1 .1 .1 .0)
 answered (read-call number) l a d = (d .0, refl)
-answered (text-call buffer) l a d = (tt, refl)
+answered (text-call buffer) l a d = (d .says .0 ∙ ap (textNo (stateOf l)) (d .before), refl)
 
 one-call : (e : Entry) (l : Lane) (b : Book) → Did (e .call) l (e .reply) → Agree (stateOf l) b
     → Agree (stateOf (laneAfter (e .call) l (e .reply))) (booked (seen e) b) × Claims (laneAfter (e .call) l (e .reply)) (seen e) b

@@ -1,17 +1,24 @@
--- The laws of the lane text: all that the crates above use of `specs/Listing`, whose definitions they leave shut.
+-- All that the crates above use of the calls' definitions, which they leave shut: a value by the call's number, and the lane text.
 use mathlib.Core.Path.{_≡_, refl}
 use mathlib.Core.Bool.{Bool, true, false, cond}
 use mathlib.Core.List.{List, _++_}
 use Prim.Native.Nat.{ℕ, _≤_}
 use native.Mathlib.Omega.{arith}
-use borrow.Author.Tests.{ltb-false}
+use borrow.Author.Tests.{ltb-false, ne-eqb}
 use lib.Dec.{ltb}
 use lib.ListN.{length, drop}
 use Rattle.lane.specs.State.{State}
-use Rattle.lane.specs.Calls.{broken}
+use Rattle.lane.specs.Calls.{broken, ifAccepted}
 use Rattle.lane.specs.Listing.{laneText, textNo, textLength, textBytes}
-use Rattle.lane.proofs.Answers.{refused-has, accepted-has}
 
+-- a value of a call that is refused, and of one that is accepted
+pub refused-has : {A : Type 0} (n : ℕ) (x y : A) → (n ≡ 0 → ⊥) → ifAccepted n x y ≡ y
+refused-has n x y h = rw (ne-eqb n 0 h) refl
+
+pub accepted-has : {A : Type 0} (n : ℕ) (x y : A) → n ≡ 0 → ifAccepted n x y ≡ x
+accepted-has n x y e = rw e refl
+
+-- ---- lane text
 not-nine : (b c : Bool) → (_≡_ {A = ℕ} (cond b 21 (cond c 9 0)) 9 → ⊥) → _≡_ {A = ℕ} (cond b 21 (cond c 9 0)) (cond b 21 0)
 not-nine true c h = refl
 not-nine false true h = absurd (h refl)

@@ -1,11 +1,13 @@
--- `History` is the theorem over every list of calls. Before it stand the laws behind it and behind the functions: lists and places, the
--- rules of a lane, one carrier in a cycle and all of them, the answers of the calls, the marked cases, what a call keeps, the road book.
+-- `History` is the theorem over every list of calls, `Consequences` what a reader may take from it. Before them stand the laws behind it and
+-- behind the functions: lists and places, the rules of a lane, one carrier in a cycle and all of them, the answers of the calls, the marked
+-- cases, what a call keeps, the road book.
 mod Lists
 mod Shift
 mod Tests
 mod Passed
+mod Records
 mod Search
-mod Scans
+mod Faults
 mod Surfaces
 mod Words
 mod Soundness
@@ -14,9 +16,9 @@ mod Checks
 mod Drives
 mod Cycles
 mod Entering
+pub mod Laws
 mod Answers
 mod Texts
-pub mod Laws
 mod Cases
 mod Leaving
 mod Order
@@ -26,4 +28,6 @@ mod Keeps
 mod Books
 mod CycleRuns
 mod Agreement
+mod Lasting
 pub mod History
+pub mod Consequences

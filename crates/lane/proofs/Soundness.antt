@@ -1,4 +1,4 @@
--- What is known of a state that breaks no rule, and the rules in the order in which one pass checks them.
+-- What is known of a state that breaks no rule, and the rules as the code checks them.
 use mathlib.Core.Path.{_≡_, refl, ap, _∙_}
 use mathlib.Core.Bool.{Bool, true, false, not, _||_, or-assoc, or-comm}
 use Prim.Native.Nat.{_≤_}
@@ -8,8 +8,7 @@ use Rattle.lane.specs.Surface.{rowOf}
 use Rattle.lane.specs.State.{State}
 use Rattle.lane.specs.Safety.{laneSafe, anyOf, numbered, repeats}
 use Rattle.lane.specs.Calls.{badEnd, badLimit, broken}
-use Rattle.lane.proofs.Scans.{any-or}
-use Rattle.lane.proofs.Tests.{neither}
+use Rattle.lane.proofs.Tests.{neither, any-or}
 
 pub record Sound (s : State) : Type 0 where
   pub started : s .started ≡ true
@@ -82,7 +81,7 @@ sound-holds s h =
     )
     refl
 
--- the three rules of a carrier by itself are checked in one pass, before the numbers are compared
+-- the rules as the code checks them: the three of a carrier by itself are one test
 pub broken-checks : (s : State)
     → broken s
     ≡ not (s .started)

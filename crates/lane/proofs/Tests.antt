@@ -1,4 +1,4 @@
--- A test that no carrier passes is passed by none at any place.
+-- Tests over all carriers: one that none passes is passed by none at any place; two tests in one pass.
 use mathlib.Core.Path.{_≡_, refl, sym, ap, _∙_}
 use mathlib.Core.Bool.{Bool, true, false, _||_, false≢true}
 use mathlib.Core.List.{List, [], _∷_}
@@ -24,3 +24,15 @@ pub none-of : (f : Carrier → Bool) (l : List Carrier) (count i : ℕ) (d : Car
     → f (getD l i d) ≡ false
 none-of f l count i d e h k =
     ap f (sym (getD-take count l i d h)) ∙ none-at f (take count l) i d e (omega (arith, length-take-le count l k))
+
+-- one pass with two tests is two passes
+pub any-or : (f g : Carrier → Bool) (l : List Carrier) → anyOf (λ c. f c || g c) l ≡ anyOf f l || anyOf g l
+unfolding anyOf
+any-or f g [] = refl
+any-or f g (c ∷ l) = ap (λ (t : Bool). f c || g c || t) (any-or f g l) ∙ crossed (f c) (g c) (anyOf f l) (anyOf g l)
+  where
+    crossed : (a b x y : Bool) → a || b || (x || y) ≡ (a || x) || (b || y)
+    crossed true b x y = refl
+    crossed false true true y = refl
+    crossed false true false y = refl
+    crossed false false x y = refl

@@ -9,14 +9,14 @@ use borrow.Author.Tests.{lt-ltb, le-ltb}
 use lib.ListN.{length, getD, take, length-append}
 use lib.Seq.{slice}
 use Rattle.text.specs.Numbers.{decimal}
-use Rattle.text.specs.Lines.{line, written, placeAfter}
-use Rattle.text.proofs.Laws.{decimal-at-most, length-line, length-written, place-fits, written-fits, written-nothing, written-then}
+use Rattle.text.specs.Lines.{line, written}
+use Rattle.text.proofs.Laws.{decimal-at-most, length-line, length-written, place-fits, written-fits, written-nothing, written-then, Put, put-both}
 use Rattle.lane.specs.declared.Carrier.{Carrier}
 use Rattle.lane.specs.State.{State}
 use Rattle.lane.specs.Calls.{broken}
 use Rattle.lane.specs.Listing.{cars-key, car-key, at-key, speed-key, carrierText, carriersText, laneText, textNo, textLength, textBytes}
 use Rattle.lane.proofs.Lists.{slice-next, slice-past}
-use Rattle.lane.proofs.Answers.{refused-has, accepted-has}
+use Rattle.lane.proofs.Laws.{refused-has, accepted-has}
 
 -- ---- lengths
 
@@ -48,20 +48,6 @@ pub length-next : (d : Carrier) (l : List Carrier) (i count : ℕ) → i < count
 length-next d l i count h k = ap length (carriers-next d l i count h k) ∙ simp length-append
 
 -- ---- writes
-
--- bytes put at a place and the place after them, as a function that puts them ensures it
-abbrev Put : (at : ℕ) (bytes buffer out : List ℕ) (end : ℕ) → Type 0
-Put at bytes buffer out end = (out ≡ written at bytes buffer) × (end ≡ placeAfter at bytes buffer)
-
-put-both : (at : ℕ) (first second buffer : List ℕ) {place end : ℕ} {middle out : List ℕ} → at + length (first ++ second) ≤ length buffer
-    → Put at first buffer middle place → Put place second middle out end → Put at (first ++ second) buffer out end
-put-both at first second buffer {place} {end} {middle} {out} room p q =
-    let long : length (first ++ second) ≡ length first + length second = length-append first second in
-    let same : length middle ≡ length buffer = ap length (p .0) ∙ length-written at first buffer in
-    let e : place ≡ at + length first = p .1 ∙ place-fits at first buffer (omega arith) in (
-      cc (written-then at first second buffer (omega arith)),
-      q .1 ∙ place-fits place second middle (omega arith) ∙ omega arith ∙ sym (place-fits at (first ++ second) buffer room),
-    )
 
 pub put-carrier : (at : ℕ) (c : Carrier) (buffer : List ℕ) {p q end : ℕ} {out₁ out₂ out : List ℕ} → at + length (carrierText c) ≤ length buffer
     → Put at (line car-key (decimal (c .number))) buffer out₁ p

@@ -41,6 +41,7 @@ pub record Book : Type 0 where
 abbrev pub begun : Lane → Book
 begun l = record { surface = l .surface; end = l .end; limit = l .limit; carriers = [] }
 
+-- the book with other carriers
 abbrev pub holding : Book → List Carrier → Book
 holding b cs = record { surface = b .surface; end = b .end; limit = b .limit; carriers = cs }
 

@@ -1,6 +1,7 @@
 -- A history: calls with what they gave, each on the lane that the one before returned or left, and demand 3 along it.
 use Prim.Native.Nat.{ℕ}
-use mathlib.Core.Bool.{not}
+use mathlib.Core.Path.{_≡_}
+use mathlib.Core.Bool.{Bool, true, false, not, _&&_, _||_}
 use mathlib.Core.List.{List, [], _∷_}
 use lib.Dec.{eqb}
 use Rattle.lane.specs.declared.Changed.{Changed}
@@ -53,6 +54,7 @@ wordIn (cycle-call count wishes) a = a .word
 wordIn (read-call number) a = 0
 wordIn (text-call buffer) a = 0
 
+-- a call and what it gave
 pub record Entry : Type 0 where
   pub call : Call
   pub reply : Reply call
@@ -68,3 +70,22 @@ Throughout l b [] = Unit {0}
 Throughout l b (e ∷ es) =
     Claims (laneAfter (e .call) l (e .reply)) (seen e) b
     × Throughout (laneAfter (e .call) l (e .reply)) (booked (seen e) b) es
+
+-- an accepted start
+abbrev pub isStart : Call → Bool
+isStart (start-call surface end limit cycle) = true
+isStart (enter-call number position speed) = false
+isStart (leave-call number) = false
+isStart (cycle-call count wishes) = false
+isStart (read-call number) = false
+isStart (text-call buffer) = false
+
+-- the call is one
+abbrev pub startsLane : Entry → Bool
+startsLane e = isStart (e .call) && eqb (numberOf (e .call) (e .reply)) 0
+
+-- "21 never started, or the lane handed in breaks a rule of this paper": once a start was accepted, no call gives it
+abbrev pub NeverBroken : (started : Bool) → List Entry → Type 0
+NeverBroken started [] = Unit {0}
+NeverBroken started (e ∷ es) =
+    (started ≡ true → ¬ (numberOf (e .call) (e .reply) ≡ 21)) × NeverBroken (started || startsLane e) es

@@ -14,12 +14,15 @@ use Rattle.lane.specs.Calls.{broken, ifAccepted}
 abbrev pub cars-key : List ℕ
 cars-key = 99 ∷ 97 ∷ 114 ∷ 115 ∷ 61 ∷ []
 
+-- "car="
 abbrev pub car-key : List ℕ
 car-key = 99 ∷ 97 ∷ 114 ∷ 61 ∷ []
 
+-- "at="
 abbrev pub at-key : List ℕ
 at-key = 97 ∷ 116 ∷ 61 ∷ []
 
+-- "speed="
 abbrev pub speed-key : List ℕ
 speed-key = 115 ∷ 112 ∷ 101 ∷ 101 ∷ 100 ∷ 61 ∷ []
 
@@ -33,6 +36,7 @@ unfoldable pub carriersText : List Carrier → List ℕ
 carriersText [] = []
 carriersText (c ∷ cs) = carrierText c ++ carriersText cs
 
+-- the lane text: the number of carriers and then each of them
 unfoldable pub laneText : State → List ℕ
 laneText s = line cars-key (decimal (s .count)) ++ carriersText (s .carriers)
 

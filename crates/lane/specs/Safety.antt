@@ -12,6 +12,7 @@ pub data Ahead : Type 0 where
   nobody : Ahead
   leader : Carrier → Ahead
 
+-- safe behind the carrier next ahead; the foremost is by itself
 unfoldable pub safeWith : Row → Ahead → Carrier → Bool
 safeWith r nobody c = true
 safeWith r (leader a) c = safeBehind (r .guaranteed) (r .hardest) (c .position) (c .speed) (a .position) (a .speed)

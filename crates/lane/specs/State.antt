@@ -7,6 +7,7 @@ use lib.ListN.{take}
 use Rattle.lane.specs.declared.Carrier.{Carrier}
 use Rattle.lane.specs.declared.Lane.{Lane}
 
+-- what a lane holds
 pub record State : Type 0 where
   pub started : Bool
   pub surface : ℕ
@@ -16,6 +17,7 @@ pub record State : Type 0 where
   pub count : ℕ
   pub carriers : List Carrier
 
+-- the state of a lane as it is handed in
 abbrev pub stateOf : Lane → State
 stateOf l =
     record {

@@ -4,6 +4,7 @@ use mathlib.Core.List.{List, [], _∷_}
 use lib.ListN.{getD}
 use Rattle.lane.specs.declared.Row.{Row}
 
+-- a column of the table: b, B and A
 abbrev pub row : ℕ → ℕ → ℕ → Row
 row b B A = record { guaranteed = b; hardest = B; most = A }
 

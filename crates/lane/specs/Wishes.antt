@@ -18,6 +18,7 @@ use Rattle.lane.specs.declared.Drive.{Drive}
 use Rattle.lane.specs.declared.Row.{Row}
 use Rattle.lane.specs.Safety.{Ahead, nobody, leader}
 
+-- "7 a float outside its range"
 abbrev pub isOutside : Converted → Bool
 isOutside (Units z) = false
 isOutside Outside = true
@@ -71,6 +72,7 @@ unfoldable pub anyOutside : List Drive → Bool
 anyOutside [] = false
 anyOutside (d ∷ ds) = d .outside || anyOutside ds
 
+-- a bit that is set or not
 abbrev pub bit : Bool → ℕ
 bit true = 1
 bit false = 0
@@ -85,6 +87,7 @@ unfoldable pub countOf : List Bool → ℕ
 countOf [] = 0
 countOf (t ∷ ts) = bit t + countOf ts
 
+-- "Replaced means that the wish's bit is set."
 abbrev pub replacedIn : List Drive → List Bool
 replacedIn = map (λ d. d .replaced)
 

@@ -1,12 +1,13 @@
-// The lane's calls: start, enter, leave, cycle, read. A lane goes in by value and comes back beside the answer.
+// The lane's calls: start, enter, leave, cycle, read, lane text. A lane goes in by value and comes back beside the answer.
 // `no` is 0 where a call is accepted, else the number of its refusal, with every value zero and the lane as it was handed in.
 ghost use mathlib.Core.Path.{_≡_};
 ghost use mathlib.Core.Bool.{false};
+ghost use lib.Ieee.Exact.{HasValue};
 ghost use lib.ListN.{length, replicate};
 ghost use Prim.Native.Nat.{_<_};
 ghost use Rattle.lane.specs.State.{stateOf};
 ghost use Rattle.lane.specs.Listing.{textNo, textLength, textBytes};
-ghost use Rattle.lane.specs.Calls.{carrier, none, startNo, startState, enterNo, enterPlace, enterState, namedNo, leaveState, readReading, cycleNo, cycleWord, cycleReplaced, cycleGone, cycleState};
+ghost use Rattle.lane.specs.Calls.{carrier, none, startNo, startState, enterNo, enterPlace, enterState, namedNo, leaveState, namedCarrier, readReading, cycleNo, cycleWord, cycleReplaced, cycleGone, cycleState};
 
 mod listing;
 mod motion;
@@ -180,6 +181,7 @@ pub fn leave(l: Lane, number: u16) -> Changed
 pub fn read(l: Lane, number: u16) -> ReadOut
     ensures number { λ r. ⌜ r .no ≡ namedNo (stateOf l) number ⌝ }
     ensures reading { λ r. ⌜ r .reading ≡ readReading (stateOf l) number ⌝ }
+    ensures exact { λ r. ⌜ (r .no ≡ 0 → HasValue (r .reading .position) false (namedCarrier (stateOf l) number .position) 2048 × HasValue (r .reading .speed) false (namedCarrier (stateOf l) number .speed) 128) ⌝ }
 {
     let k = rules::check_named(l, number);
     let place = k.place;
@@ -189,8 +191,7 @@ pub fn read(l: Lane, number: u16) -> ReadOut
             reading: wish::reading_of(0, 0),
         };
     }
-    let carriers = l.carriers;
-    let c = carriers[place];
+    let c = l.carriers[place];
     ReadOut {
         no: 0,
         reading: wish::reading_of(c.position, c.speed),
@@ -207,13 +208,11 @@ pub fn lane_text(l: Lane, out: &mut [u8]) -> Listed
     if rules::breaks_rule(l) {
         return Listed { no: 21, length: 0 };
     }
-    let count = l.count;
-    let carriers = l.carriers;
-    let length = listing::text_length(carriers, count);
+    let length = listing::text_length(l);
     if out.len() < length {
         return Listed { no: 9, length: 0 };
     }
-    listing::put_text(out, carriers, count);
+    listing::put_text(out, l);
     Listed { no: 0, length }
 }
 
@@ -230,26 +229,17 @@ pub fn cycle(l: Lane, count: usize, wishes: [Wish; 64]) -> Cycled
     if no != 0 {
         return refused_cycle(l, no);
     }
-    let surface = l.surface;
-    let limit = l.limit;
-    let end = l.end;
-    let present = l.carriers;
-    let d = motion::drive_all(present, count, wishes, rows::row(surface), end, limit);
+    let d = motion::drive_all(l, wishes, rows::row(l.surface));
     if d.outside {
         return refused_cycle(l, 7);
     }
-    let word = d.word;
-    let left = d.count;
-    let carriers = d.carriers;
-    let mut next = l;
-    next.carriers = carriers;
-    next.count = left;
+    let mut next = d.lane;
     next.cycle = l.cycle + 1;
     Cycled {
         no: 0,
-        word,
-        replaced: u64::count_ones(word),
-        gone: (count - left) as u32,
+        word: d.word,
+        replaced: u64::count_ones(d.word),
+        gone: (count - next.count) as u32,
         lane: next,
     }
 }

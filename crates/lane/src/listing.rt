@@ -7,6 +7,7 @@ ghost use Rattle.text.specs.Numbers.{decimal};
 ghost use Rattle.text.specs.Lines.{line, written};
 ghost use Rattle.lane.specs.Listing.{cars-key, carrierText, carriersText};
 use crate::Carrier;
+use crate::Lane;
 
 // How long a carrier's three lines are.
 fn carrier_length(c: Carrier) -> usize
@@ -19,14 +20,14 @@ fn carrier_length(c: Carrier) -> usize
 }
 
 // How long the text is.
-pub(crate) fn text_length(carriers: [Carrier; 64], count: usize) -> usize
-    requires { ⌜ count ≤ 64 ⌝ }
-    ensures { λ r. ⌜ (r ≡ length (line cars-key (decimal count) ++ carriersText (take count carriers))) × (r ≤ 2635) ⌝ }
+pub(crate) fn text_length(l: Lane) -> usize
+    requires { ⌜ l .count ≤ 64 ⌝ }
+    ensures { λ r. ⌜ (r ≡ length (line cars-key (decimal (l .count)) ++ carriersText (take (l .count) (l .carriers)))) × (r ≤ 2635) ⌝ }
 {
-    let mut n: usize = 6 + text::decimal_length(count as u64);
+    let mut n: usize = 6 + text::decimal_length(l.count as u64);
     let mut i: usize = 0;
-    while i < count {
-        let c = carriers[i];
+    while i < l.count {
+        let c = l.carriers[i];
         n += carrier_length(c);
         i += 1;
     }
@@ -44,14 +45,14 @@ fn put_carrier(out: &mut [u8], at: usize, c: Carrier) -> usize
 }
 
 // The text put at the buffer's start, into which it fits.
-pub(crate) fn put_text(out: &mut [u8], carriers: [Carrier; 64], count: usize)
-    requires { ⌜ (count ≤ 64) × (length (line cars-key (decimal count) ++ carriersText (take count carriers)) ≤ length (now out)) ⌝ }
-    ensures { λ r. ⌜ now (out .exit) ≡ written 0 (line cars-key (decimal count) ++ carriersText (take count carriers)) (now (out .entry)) ⌝ }
+pub(crate) fn put_text(out: &mut [u8], l: Lane)
+    requires { ⌜ (l .count ≤ 64) × (length (line cars-key (decimal (l .count)) ++ carriersText (take (l .count) (l .carriers))) ≤ length (now out)) ⌝ }
+    ensures { λ r. ⌜ now (out .exit) ≡ written 0 (line cars-key (decimal (l .count)) ++ carriersText (take (l .count) (l .carriers))) (now (out .entry)) ⌝ }
 {
-    let mut at = text::put_decimal_line(out, 0, b"cars=", count as u64);
+    let mut at = text::put_decimal_line(out, 0, b"cars=", l.count as u64);
     let mut i: usize = 0;
-    while i < count {
-        let c = carriers[i];
+    while i < l.count {
+        let c = l.carriers[i];
         at = put_carrier(out, at, c);
         i += 1;
     }

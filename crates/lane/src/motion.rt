@@ -4,12 +4,15 @@ ghost use mathlib.Core.Bool.{true, false, cond};
 ghost use Prim.Native.Nat.{_+_, _*_, _^_, _≤_, _<_};
 ghost use lib.Dec.{leb, ltb};
 ghost use lib.IntN.{pos, _+ℤ_};
-ghost use lib.ListN.{take, length};
+ghost use lib.ListN.{take};
 ghost use Rattle.headway.specs.Motion.{speedAfter};
+ghost use Rattle.lane.specs.State.{stateOf};
+ghost use Rattle.lane.specs.Calls.{withCarriers};
 ghost use Rattle.lane.specs.Safety.{nobody, leader, anyOf};
 ghost use Rattle.lane.specs.Wishes.{isOutside, unitsIn, stands, drive, drives, moved, allMoved, anyOutside, bit, replacedIn, wordOf, remaining};
 use crate::Carrier;
 use crate::Drive;
+use crate::Lane;
 use crate::Row;
 use wish::Converted;
 use wish::Wish;
@@ -102,63 +105,51 @@ fn marked(word: u64, i: usize, flag: bool) -> u64
     if flag { word | (1u64 << i) } else { word }
 }
 
-// The carriers left after the cycle, front to back, and the word; nothing else counts where `outside` is true.
+// The lane after the cycle but for its number, and the word; nothing else counts where `outside` is true.
 pub(crate) struct Driven {
     pub(crate) outside: bool,
     pub(crate) word: u64,
-    pub(crate) count: usize,
-    pub(crate) carriers: [Carrier; 64],
+    pub(crate) lane: Lane,
 }
 
-pub(crate) fn drive_all(
-    carriers: [Carrier; 64],
-    count: usize,
-    wishes: [Wish; 64],
-    row: Row,
-    end: u32,
-    limit: u32,
-) -> Driven
-    requires { ⌜ ((1 ≤ row .guaranteed) × (1 ≤ row .hardest)) × ((count ≤ 64) × ((end ≤ 2147483648) × (limit ≤ 8192))) ⌝ }
-    requires { ⌜ (anyOf (λ c. ltb limit (c .speed)) (take count carriers) ≡ false) × (anyOf (λ c. leb end (c .position)) (take count carriers) ≡ false) ⌝ }
-    ensures { λ r. ⌜ r .outside ≡ anyOutside (drives row limit nobody (take count carriers) (take count wishes)) ⌝ }
-    ensures { λ r. ⌜ (r .outside ≡ false → r .word ≡ wordOf (replacedIn (drives row limit nobody (take count carriers) (take count wishes)))) ⌝ }
-    ensures { λ r. ⌜ (r .outside ≡ false → take (r .count) (r .carriers) ≡ remaining end (allMoved (take count carriers) (drives row limit nobody (take count carriers) (take count wishes)))) ⌝ }
-    ensures { λ r. ⌜ r .count ≤ count ⌝ }
+pub(crate) fn drive_all(l: Lane, wishes: [Wish; 64], row: Row) -> Driven
+    requires { ⌜ ((1 ≤ row .guaranteed) × (1 ≤ row .hardest)) × ((l .count ≤ 64) × ((l .end ≤ 2147483648) × (l .limit ≤ 8192))) ⌝ }
+    requires { ⌜ (anyOf (λ c. ltb (l .limit) (c .speed)) (take (l .count) (l .carriers)) ≡ false) × (anyOf (λ c. leb (l .end) (c .position)) (take (l .count) (l .carriers)) ≡ false) ⌝ }
+    ensures { λ r. ⌜ r .outside ≡ anyOutside (drives row (l .limit) nobody (take (l .count) (l .carriers)) (take (l .count) wishes)) ⌝ }
+    ensures { λ r. ⌜ (r .outside ≡ false → r .word ≡ wordOf (replacedIn (drives row (l .limit) nobody (take (l .count) (l .carriers)) (take (l .count) wishes)))) ⌝ }
+    ensures { λ r. ⌜ (r .outside ≡ false → stateOf (r .lane) ≡ withCarriers (stateOf l) (remaining (l .end) (allMoved (take (l .count) (l .carriers)) (drives row (l .limit) nobody (take (l .count) (l .carriers)) (take (l .count) wishes))))) ⌝ }
+    ensures { λ r. ⌜ r .lane .count ≤ l .count ⌝ }
 {
-    let mut next = carriers;
+    let mut next = l;
     let mut left: usize = 0;
     let mut word: u64 = 0;
-    let mut ahead = Carrier {
-        number: 0,
-        position: 0,
-        speed: 0,
-    };
+    // Nobody is ahead of the foremost carrier, so that any record will do at first.
+    let mut ahead = l.carriers[0];
     let mut i: usize = 0;
-    while i < count {
-        let c = carriers[i];
+    while i < l.count {
+        let c = l.carriers[i];
         let w = wishes[i];
-        let d = drive_one(row, limit, i == 0, ahead, c, w);
+        let d = drive_one(row, l.limit, i == 0, ahead, c, w);
         if d.outside {
             return Driven {
                 outside: true,
                 word,
-                count: left,
-                carriers: next,
+                lane: next,
             };
         }
         word = marked(word, i, d.replaced);
         let m = move_one(c, d.acceleration);
-        if m.position < end {
-            next[left] = m;
+        if m.position < l.end {
+            next.carriers[left] = m;
             left += 1;
         }
         ahead = c;
         i += 1;
     }
+    next.count = left;
     Driven {
         outside: false,
         word,
-        count: left,
-        carriers: next,
+        lane: next,
     }
 }

@@ -6,7 +6,7 @@ ghost use lib.Dec.{eqb, leb, ltb};
 ghost use lib.ListN.{take};
 ghost use Rattle.lane.specs.State.{stateOf};
 ghost use Rattle.lane.specs.Safety.{leader, safeWith, laneSafe, anyOf, numbered, repeats};
-ghost use Rattle.lane.specs.Calls.{badEnd, badLimit, broken, startNo, gapNo, walk, enterNo, enterPlace, namedNo, namedPlace};
+ghost use Rattle.lane.specs.Calls.{badEnd, badLimit, broken, startNo, gapNo, enterNo, enterPlace, namedNo, namedPlace};
 use crate::Carrier;
 use crate::Lane;
 use crate::Row;
@@ -53,42 +53,6 @@ fn unlawful(c: Carrier, end: u32, limit: u32) -> bool
     end <= c.position
 }
 
-fn any_unlawful(carriers: [Carrier; 64], count: usize, end: u32, limit: u32) -> bool
-    requires { ⌜ count ≤ 64 ⌝ }
-    ensures { λ r. ⌜ r ≡ anyOf (λ c. numbered 0 c || ltb limit (c .speed) || leb end (c .position)) (take count carriers) ⌝ }
-{
-    let mut i: usize = 0;
-    while i < count {
-        let c = carriers[i];
-        if unlawful(c, end, limit) {
-            return true;
-        }
-        i += 1;
-    }
-    false
-}
-
-fn any_repeated(carriers: [Carrier; 64], count: usize) -> bool
-    requires { ⌜ count ≤ 64 ⌝ }
-    ensures { λ r. ⌜ r ≡ repeats (take count carriers) ⌝ }
-{
-    let mut i: usize = 0;
-    while i < count {
-        let c = carriers[i];
-        let mut j = i + 1;
-        // A call for each carrier would copy them all for each.
-        while j < count {
-            let other = carriers[j];
-            if other.number == c.number {
-                return true;
-            }
-            j += 1;
-        }
-        i += 1;
-    }
-    false
-}
-
 // The follower is safe behind the carrier ahead.
 fn safe(row: Row, ahead: Carrier, c: Carrier) -> bool
     requires { ⌜ (1 ≤ row .guaranteed) × (1 ≤ row .hardest) ⌝ }
@@ -104,20 +68,35 @@ fn safe(row: Row, ahead: Carrier, c: Carrier) -> bool
     )
 }
 
-fn all_safe(carriers: [Carrier; 64], count: usize, row: Row) -> bool
+// Some carrier breaks a rule by itself, with the one behind it or by its number. From the back: a number whose low byte no carrier passed
+// has is new, and only the others are searched for.
+fn any_breaks(carriers: [Carrier; 64], count: usize, end: u32, limit: u32, row: Row) -> bool
     requires { ⌜ (count ≤ 64) × ((1 ≤ row .guaranteed) × (1 ≤ row .hardest)) ⌝ }
-    ensures { λ r. ⌜ r ≡ laneSafe row (take count carriers) ⌝ }
+    ensures { λ r. ⌜ r ≡ (anyOf (λ c. numbered 0 c || ltb limit (c .speed) || leb end (c .position)) (take count carriers) || repeats (take count carriers) || not (laneSafe row (take count carriers))) ⌝ }
 {
-    let mut i: usize = 1;
-    while i < count {
-        let ahead = carriers[i - 1];
-        let c = carriers[i];
-        if !safe(row, ahead, c) {
-            return false;
+    let mut met = [false; 256];
+    let mut i = count;
+    while 0 < i {
+        let c = carriers[i - 1];
+        if unlawful(c, end, limit) {
+            return true;
         }
-        i += 1;
+        if i < count {
+            let follower = carriers[i];
+            if !safe(row, c, follower) {
+                return true;
+            }
+        }
+        let low = (c.number % 256) as usize;
+        if met[low] {
+            if places::find_from(carriers, i, count, c.number) < count {
+                return true;
+            }
+        }
+        met[low] = true;
+        i -= 1;
     }
-    true
+    false
 }
 
 // Check 21.
@@ -141,13 +120,7 @@ pub(crate) fn breaks_rule(l: Lane) -> bool
         return true;
     }
     let carriers = l.carriers;
-    if any_unlawful(carriers, count, l.end, l.limit) {
-        return true;
-    }
-    if any_repeated(carriers, count) {
-        return true;
-    }
-    !all_safe(carriers, count, rows::row(l.surface))
+    any_breaks(carriers, count, l.end, l.limit, rows::row(l.surface))
 }
 
 // A check's number, 0 where all are passed, and the place that the call is about.

@@ -23,10 +23,14 @@ fn run(input: &[u8]) {
     }
 }
 
+// The space is one byte longer than an input may be. Of a longer one nothing is run.
 fn supervise(space: &mut [u8]) {
     let n = pipe::read_whole(space);
-    if 65536 < n {
-        pipe::write_whole(b"no=10\n");
+    let mut line = [0u8; 4096];
+    let out: &mut [u8] = &mut line;
+    let w = console::refuse_long(n, out);
+    if w > 0 {
+        pipe::write_whole(&line[..w]);
         return;
     }
     run(&space[..n]);

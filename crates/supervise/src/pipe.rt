@@ -1,15 +1,16 @@
 // Bytes moved between file descriptors and slices. A call that moves fewer bytes than asked goes on from there, and one that a signal
-// interrupted before it moved any is made again; the end of the input, a closed output and any other error end the moving.
+// interrupted before it moved any is made again; the end of the input, a closed output and any other failure end the moving.
 ghost use mathlib.Core.Path.{_≡_};
 ghost use Prim.Native.Nat.{_+_, _≤_};
 ghost use lib.ListN.{length};
 use libc::STDIN_FILENO;
 use libc::STDOUT_FILENO;
 
-// What one call moved, and whether to go on.
+// What one call moved, and whether the input has ended or the call has failed.
 struct Moved {
     bytes: usize,
-    more: bool,
+    end: bool,
+    failed: bool,
 }
 
 fn taken(got: isize, most: usize) -> Moved
@@ -20,17 +21,20 @@ fn taken(got: isize, most: usize) -> Moved
         if n < most {
             return Moved {
                 bytes: n,
-                more: true,
+                end: false,
+                failed: false,
             };
         }
         return Moved {
             bytes: most,
-            more: true,
+            end: false,
+            failed: false,
         };
     }
     Moved {
         bytes: 0,
-        more: os::errno() == libc::EINTR,
+        end: false,
+        failed: os::errno() != libc::EINTR,
     }
 }
 
@@ -44,14 +48,15 @@ fn read_once(buf: &mut [u8], from: usize) -> Moved
     if got == 0 {
         return Moved {
             bytes: 0,
-            more: false,
+            end: true,
+            failed: false,
         };
     }
     taken(got, room)
 }
 
-// The input up to the buffer's length. A proved loop has to end, and nothing says that an input does: so the turns are counted down,
-// from a number that no run uses up.
+// The input up to the buffer's length, or no byte of it where a call fails: a part is not run as if it were the whole. A proved loop has to
+// end, and nothing says that an input does: so the turns are counted down, from a number that no run uses up.
 pub(crate) fn read_whole(buf: &mut [u8]) -> usize
     ensures { λ r. ⌜ r ≤ length (now (buf .exit)) ⌝ }
 {
@@ -62,13 +67,16 @@ pub(crate) fn read_whole(buf: &mut [u8]) -> usize
             return at;
         }
         let m = read_once(buf, at);
-        at += m.bytes;
-        if !m.more {
+        if m.failed {
+            return 0;
+        }
+        if m.end {
             return at;
         }
+        at += m.bytes;
         turns -= 1;
     }
-    at
+    0
 }
 
 fn write_once(buf: &[u8], from: usize) -> Moved
@@ -89,10 +97,10 @@ pub(crate) fn write_whole(buf: &[u8]) -> bool {
             return true;
         }
         let m = write_once(buf, at);
-        at += m.bytes;
-        if !m.more {
+        if m.failed {
             return false;
         }
+        at += m.bytes;
         turns -= 1;
     }
     false

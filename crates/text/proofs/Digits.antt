@@ -1,14 +1,14 @@
 -- The digits of a number, one at a time from the last.
 use mathlib.Core.Path.{_≡_, refl, sym, ap, _∙_}
-use mathlib.Core.List.{List, [], _∷_, _++_}
-use Prim.Native.Nat.{ℕ, zero, suc, _+_, _-_, _*_, _/_, _%_, _≤_, _<_, max}
+use mathlib.Core.List.{[], _∷_, _++_}
+use Prim.Native.Nat.{ℕ, zero, suc, _+_, _/_, _%_, _≤_, _<_, max}
 use native.Mathlib.Nat.{mod-eq-of-lt, div-eq-of-lt}
 use native.Mathlib.Numerals.{add-one}
 use native.Mathlib.Decide.{decLt}
 use native.Mathlib.Omega.{arith}
 use lib.ListN.{length, length-append}
 use borrow.Author.Tests.{lt-ltb}
-use Rattle.text.specs.Numbers.{digit, digits, significant, decimal, spelled}
+use Rattle.text.specs.Numbers.{digit, digits, significant, decimal}
 
 pub length-digits : (b k n : ℕ) → length (digits b k n) ≡ k
 unfolding digits
@@ -73,8 +73,3 @@ module _ (P : ℕ → Type 0) (small : (n : ℕ) → n < 10 → P n) (large : (n
 
   pub decimal-induction : (n : ℕ) → P n
   decimal-induction n = below n n (omega arith)
-
-pub spelled-last : (a : ℕ) (ds : List ℕ) (d : ℕ) → spelled a (ds ++ (d ∷ [])) ≡ spelled a ds * 10 + (d - 48)
-unfolding spelled
-spelled-last a [] d = refl
-spelled-last a (e ∷ ds) d = spelled-last (a * 10 + (e - 48)) ds d

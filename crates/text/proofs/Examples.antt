@@ -1,23 +1,11 @@
--- Document 01, "Call texts", computed from the definitions: lines of the whole output, and the ends of the numbers' ranges.
+-- Document 01, "Call texts", computed from the definitions: what is malformed, and the ends of the numbers' ranges.
 use mathlib.Core.Path.{_≡_, refl}
 use mathlib.Core.Bool.{false}
 use mathlib.Core.List.{[], _∷_}
-use Prim.Native.Nat.{_-_, _^_}
 use lib.IntN.{negsuc}
-use Rattle.text.specs.Numbers.{digit, digits, significant, decimal, hexadecimal, spelled}
-use Rattle.text.specs.Lines.{line}
 use Rattle.text.specs.Fields.{lineLength, startsWith, hasLine, lineValue, digitIn, areDigits, numberOf, isDecimal, numberIn, minus, plus, signedIn, bitsIn}
 use Rattle.text.specs.declared.numbers.Number.the-variants.{Is, Malformed}
 use Rattle.text.specs.declared.numbers.Signed.the-variants as signed
-
--- `at=1000`, the word of `over=0000000000000002`, `0`, and 2⁶⁴ − 1 in both bases
-examples : (line (97 ∷ 116 ∷ 61 ∷ []) (decimal 1000) ≡ 97 ∷ 116 ∷ 61 ∷ 49 ∷ 48 ∷ 48 ∷ 48 ∷ 10 ∷ [])
-    × (hexadecimal 16 2 ≡ 48 ∷ 48 ∷ 48 ∷ 48 ∷ 48 ∷ 48 ∷ 48 ∷ 48 ∷ 48 ∷ 48 ∷ 48 ∷ 48 ∷ 48 ∷ 48 ∷ 48 ∷ 50 ∷ [])
-    × (decimal 0 ≡ 48 ∷ [])
-    × (decimal (2 ^ 64 - 1) ≡ 49 ∷ 56 ∷ 52 ∷ 52 ∷ 54 ∷ 55 ∷ 52 ∷ 52 ∷ 48 ∷ 55 ∷ 51 ∷ 55 ∷ 48 ∷ 57 ∷ 53 ∷ 53 ∷ 49 ∷ 54 ∷ 49 ∷ 53 ∷ [])
-    × (hexadecimal 16 (2 ^ 64 - 1) ≡ 70 ∷ 70 ∷ 70 ∷ 70 ∷ 70 ∷ 70 ∷ 70 ∷ 70 ∷ 70 ∷ 70 ∷ 70 ∷ 70 ∷ 70 ∷ 70 ∷ 70 ∷ 70 ∷ [])
-unfolding line decimal hexadecimal digits significant digit
-examples = (refl, refl, refl, refl, refl)
 
 -- `at=70` with its newline and without; `65535` and `65536` in 16 bits; `07` and nothing; `-0`, `-32768` and `32768`; `BD000000`, `bd000000`
 -- and `BD00000`
@@ -33,5 +21,5 @@ readings : (lineValue (97 ∷ 116 ∷ 61 ∷ []) (97 ∷ 116 ∷ 61 ∷ 55 ∷ 4
     × (bitsIn (66 ∷ 68 ∷ 48 ∷ 48 ∷ 48 ∷ 48 ∷ 48 ∷ 48 ∷ []) ≡ Is 0xbd00_0000)
     × (bitsIn (98 ∷ 100 ∷ 48 ∷ 48 ∷ 48 ∷ 48 ∷ 48 ∷ 48 ∷ []) ≡ Malformed)
     × (bitsIn (66 ∷ 68 ∷ 48 ∷ 48 ∷ 48 ∷ 48 ∷ 48 ∷ []) ≡ Malformed)
-unfolding lineLength startsWith hasLine lineValue digitIn areDigits numberOf isDecimal spelled numberIn minus plus signedIn bitsIn
+unfolding lineLength startsWith hasLine lineValue digitIn areDigits numberOf isDecimal numberIn minus plus signedIn bitsIn
 readings = (refl, refl, refl, refl, refl, refl, refl, refl, refl, refl, refl, refl)

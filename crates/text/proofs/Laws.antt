@@ -9,11 +9,11 @@ use native.Mathlib.Decide.{decLt}
 use native.Mathlib.Omega.{arith}
 use lib.Dec.{leb}
 use lib.ListN.{length, getD, take, drop, set, length-append, length-drop, take-append-drop, List·getD-append}
-use lib.Seq.{length-take-le, take-at, drop-at, take-take, drop-drop, getD-at, set-split}
+use lib.Seq.{length-take-le, take-at, drop-at, take-take, drop-drop, set-split}
 use borrow.Author.Tests.{le-leb, lt-leb, leb-true}
-use Rattle.text.specs.Numbers.{decimal, hexadecimal, spelled}
+use Rattle.text.specs.Numbers.{decimal, hexadecimal}
 use Rattle.text.specs.Lines.{line, fits, written, placeAfter}
-use Rattle.text.proofs.Digits.{length-digits, decimal-small, decimal-large, longer, decimal-induction, spelled-last}
+use Rattle.text.proofs.Digits.{length-digits, decimal-small, decimal-large, longer, decimal-induction}
 
 -- ---- numbers
 
@@ -36,23 +36,6 @@ decimal-at-most (suc zero) n hk h = rw (decimal-small n h) (omega arith)
 decimal-at-most (suc (suc k)) n hk h =
     shorter (suc k) n (decLt n 10) (decimal-at-most (suc k) (n / 10) (omega arith) (omega (arith, pow-suc 10 (suc k))))
 
--- what holds at a place of ds, and of d, holds at a place of ds with d after it
-each : (P : ℕ → Type 0) (ds : List ℕ) (d i : ℕ) → (i < length ds → P (getD ds i 0)) → P d
-    → i < length (ds ++ (d ∷ [])) → P (getD (ds ++ (d ∷ [])) i 0)
-each P ds d i f p h = by-place (decLt i (length ds))
-  where
-    by-place : Dec (i < length ds) → P (getD (ds ++ (d ∷ [])) i 0)
-    by-place (yes b) = rw (List·getD-append ds (d ∷ []) 0 i b) (f b)
-    by-place (no b) = rw (getD-at ds d [] 0 i (omega (arith, length-append ds (d ∷ [])))) p
-
--- each digit is from `0` to `9`
-pub decimal-digits : (n i : ℕ) → i < length (decimal n) → (48 ≤ getD (decimal n) i 0) × (getD (decimal n) i 0 ≤ 57)
-decimal-digits =
-    let P : ℕ → Type 0 = λ d. (48 ≤ d) × (d ≤ 57) in
-    decimal-induction (λ (n : ℕ). (i : ℕ) → i < length (decimal n) → P (getD (decimal n) i 0))
-    (λ n s i. rw (decimal-small n s) (each P [] (48 + n) i (λ h. absurd (omega arith)) (omega arith)))
-    (λ n l p i. rw (decimal-large n l) (each P (decimal (n / 10)) (48 + n % 10) i (p i) (omega arith)))
-
 -- "without leading zeros"
 pub decimal-no-leading-zero : (n : ℕ) → 1 ≤ n → 49 ≤ getD (decimal n) 0 0
 decimal-no-leading-zero =
@@ -60,17 +43,6 @@ decimal-no-leading-zero =
     (λ n s h. rw (decimal-small n s) (omega arith))
     (λ n l p h.
     rw (decimal-large n l, List·getD-append (decimal (n / 10)) ((48 + n % 10) ∷ []) 0 0 (decimal-not-empty (n / 10))) (p (omega arith)))
-
--- a number's digits spell it
-pub decimal-spells : (n : ℕ) → spelled 0 (decimal n) ≡ n
-unfolding spelled
-decimal-spells =
-    decimal-induction (λ (n : ℕ). spelled 0 (decimal n) ≡ n)
-    (λ n h. ap (spelled 0) (decimal-small n h) ∙ omega arith)
-    (λ n h p. ap (spelled 0) (decimal-large n h) ∙ spelled-last 0 (decimal (n / 10)) (48 + n % 10) ∙ omega (arith, p))
-
-pub decimal-injective : (m n : ℕ) → decimal m ≡ decimal n → m ≡ n
-decimal-injective m n e = sym (decimal-spells m) ∙ ap (spelled 0) e ∙ decimal-spells n
 
 -- ---- lines
 
@@ -184,3 +156,18 @@ written-line at key value buffer room =
     let e : length (key ++ value) ≡ length key + length value = length-append key value in
     let r : at + length key + length value + 1 ≤ length buffer = omega (arith, e, length-append (key ++ value) (10 ∷ [])) in
     rw (written-then at key value buffer (omega arith), add-assoc, ← e) (written-then at (key ++ value) (10 ∷ []) buffer (omega (arith, e)))
+
+-- bytes put at a place and the place after them, as a function that puts them ensures it
+abbrev pub Put : (at : ℕ) (bytes buffer out : List ℕ) (end : ℕ) → Type 0
+Put at bytes buffer out end = (out ≡ written at bytes buffer) × (end ≡ placeAfter at bytes buffer)
+
+-- bytes put one after the other
+pub put-both : (at : ℕ) (first second buffer : List ℕ) {place end : ℕ} {middle out : List ℕ} → at + length (first ++ second) ≤ length buffer
+    → Put at first buffer middle place → Put place second middle out end → Put at (first ++ second) buffer out end
+put-both at first second buffer {place} {end} {middle} {out} room p q =
+    let long : length (first ++ second) ≡ length first + length second = length-append first second in
+    let same : length middle ≡ length buffer = ap length (p .0) ∙ length-written at first buffer in
+    let e : place ≡ at + length first = p .1 ∙ place-fits at first buffer (omega arith) in (
+      cc (written-then at first second buffer (omega arith)),
+      q .1 ∙ place-fits place second middle (omega arith) ∙ omega arith ∙ sym (place-fits at (first ++ second) buffer room),
+    )

@@ -2,21 +2,21 @@
 use mathlib.Core.Path.{_≡_, refl, sym, ap, _∙_}
 use mathlib.Core.Bool.{Bool, true, false, _&&_, and-false, cond, false≢true}
 use mathlib.Core.List.{List, [], _∷_, _++_, append-assoc}
-use Prim.Native.Nat.{ℕ, suc, _+_, _^_, _≤_, _<_}
+use Prim.Native.Nat.{ℕ, suc, _+_, _/_, _%_, _^_, _≤_, _<_}
 use native.Mathlib.Decide.{decLt}
 use native.Mathlib.Omega.{arith}
 use lib.Dec.{leb, ltb, eqb}
 use lib.ListN.{length, getD, take, drop, length-append}
 use lib.Seq.{take-at, drop-at, drop-append-seam, length-take-le}
 use borrow.Author.Tests.{lt-ltb, le-ltb, le-leb, eq-eqb, ltb-true, leb-true, eqb-true}
-use Rattle.text.specs.Numbers.{digits, decimal, hexadecimal, spelled}
+use Rattle.text.specs.Numbers.{digits, decimal, hexadecimal}
 use Rattle.text.specs.Lines.{line}
-use Rattle.text.specs.Fields.{lineLength, startsWith, hasLine, lineValue, isDecimal, areDigits, numberOf, numberIn, bitsIn, fieldIn, isNumber, valueIn}
+use Rattle.text.specs.Fields.{lineLength, startsWith, hasLine, lineValue, isDecimal, areDigits, numberOf, numberIn, bitsIn, fieldIn, valueIn}
 use Rattle.text.specs.declared.numbers.Number.{Number}
 use Rattle.text.specs.declared.numbers.Number.the-variants.{Is, Malformed}
-use Rattle.text.proofs.Digits.{decimal-small, decimal-is-digits}
-use Rattle.text.proofs.Laws.{length-line, length-hexadecimal, decimal-not-empty, decimal-no-leading-zero, decimal-spells}
-use Rattle.text.proofs.Reading.{both, decimal-is, decimal-spelled, put-are-digits, put-number, digits-no-newline, bits-below, hexadecimal-again}
+use Rattle.text.proofs.Digits.{decimal-small, decimal-large, decimal-induction, decimal-is-digits}
+use Rattle.text.proofs.Laws.{length-line, decimal-not-empty, decimal-no-leading-zero}
+use Rattle.text.proofs.Reading.{digit-ten, number-last, both, decimal-is, decimal-whole, put-are-digits, digits-no-newline, bits-below, hexadecimal-again}
 
 -- ---- a line that is there
 
@@ -63,9 +63,6 @@ line-too-long key text h = rw (le-ltb (lineLength text) 64 h, and-false)
 pub next-is : (key text : List ℕ) (at : ℕ) {next : ℕ} → hasLine key text ≡ true
     → next ≡ cond (hasLine key text) (at + suc (lineLength text)) at → next ≡ at + suc (lineLength text)
 next-is key text at there e = rw there at e
-
-pub line-not-empty : (text : List ℕ) → 1 ≤ suc (lineLength text)
-line-not-empty text = omega arith
 
 -- ---- a line that was put
 
@@ -126,10 +123,6 @@ decimal-are-digits n =
 pub decimal-no-newline : (n : ℕ) → lineLength (decimal n) ≡ length (decimal n)
 decimal-no-newline n = digits-no-newline 10 (decimal n) (omega arith) (decimal-are-digits n)
 
-pub hexadecimal-no-newline : (k n : ℕ) → lineLength (hexadecimal k n) ≡ length (hexadecimal k n)
-unfolding hexadecimal
-hexadecimal-no-newline k n = digits-no-newline 16 (hexadecimal k n) (omega arith) (put-are-digits 16 (omega arith) (omega arith) k n)
-
 first-not-zero : (n : ℕ) → 1 < length (decimal n) → getD (decimal n) 0 0 ≡ 48 → ⊥
 first-not-zero n h e = by-size (decLt n 10)
   where
@@ -137,31 +130,32 @@ first-not-zero n h e = by-size (decLt n 10)
     by-size (yes s) = omega (arith, ap length (decimal-small n s))
     by-size (no l) = omega (arith, decimal-no-leading-zero n (omega arith))
 
+-- the digits of a number stand for it
+decimal-number : (n : ℕ) → numberOf 10 0 (decimal n) ≡ n
+unfolding numberOf
+decimal-number =
+    decimal-induction (λ (n : ℕ). numberOf 10 0 (decimal n) ≡ n)
+    (λ n h. ap (numberOf 10 0) (decimal-small n h) ∙ omega (arith, digit-ten (48 + n) (omega arith) (omega arith)))
+    (λ n h p.
+    ap (numberOf 10 0) (decimal-large n h) ∙ number-last 10 0 (48 + n % 10) (decimal (n / 10))
+    ∙ omega (arith, p, digit-ten (48 + n % 10) (omega arith) (omega arith)))
+
 -- a number that is put is read, where the field can hold it
 pub number-read : (most n : ℕ) → n ≤ most → numberIn most (decimal n) ≡ Is n
 unfolding numberIn
 number-read most n h =
     let t : isDecimal (decimal n) ≡ true = decimal-is (decimal n) (decimal-not-empty n) (first-not-zero n) ∙ decimal-are-digits n in
-    rw (t, decimal-spells n, le-leb n most h)
+    rw (t, decimal-number n, le-leb n most h)
 
 -- and what is read is that number as it is put
 pub number-put : (most : ℕ) (ds : List ℕ) (n : ℕ) → numberIn most ds ≡ Is n → (ds ≡ decimal n) × (n ≤ most)
 unfolding numberIn
 number-put most ds n e =
-    let c = chosen (isDecimal ds && leb (spelled 0 ds) most) (spelled 0 ds) n e in
-    let t = both (isDecimal ds) (leb (spelled 0 ds) most) (c .0) in
-    (decimal-spelled ds (t .0) ∙ ap decimal (c .1), rw (c .1) at (leb-true (spelled 0 ds) most (t .1)))
+    let c = chosen (isDecimal ds && leb (numberOf 10 0 ds) most) (numberOf 10 0 ds) n e in
+    let t = both (isDecimal ds) (leb (numberOf 10 0 ds) most) (c .0) in
+    (decimal-whole ds (t .0) ∙ ap decimal (c .1), rw (c .1) at (leb-true (numberOf 10 0 ds) most (t .1)))
 
 -- the same of a float's bits
-pub bits-read : (n : ℕ) → n < 2 ^ 32 → bitsIn (hexadecimal 8 n) ≡ Is n
-unfolding bitsIn hexadecimal
-bits-read n h =
-    rw (
-      eq-eqb (length (hexadecimal 8 n)) 8 (length-hexadecimal 8 n),
-      put-are-digits 16 (omega arith) (omega arith) 8 n,
-      put-number 16 (omega arith) (omega arith) 8 n h,
-    )
-
 pub bits-put : (ds : List ℕ) (n : ℕ) → bitsIn ds ≡ Is n → (ds ≡ hexadecimal 8 n) × (n < 2 ^ 32)
 unfolding bitsIn hexadecimal digits
 bits-put ds n e =
@@ -179,11 +173,6 @@ field-read key rest most n k h g =
     let v = decimal-no-newline n in
     rw (line-there key (decimal n) rest k v h, value-there key (decimal n) rest k v h) (number-read most n g)
 
-pub is-number : (m : Number) → isNumber m ≡ true → m ≡ Is (valueIn m)
-unfolding isNumber valueIn
-is-number (Is n) e = refl
-is-number Malformed e = absurd (false≢true e)
-
 held : (t : Bool) (m : Number) (n : ℕ) → cond t m Malformed ≡ Is n → (t ≡ true) × (m ≡ Is n)
 held true m n e = (refl, e)
 held false m n e = let z : _≡_ {A = ℕ} 0 1 = cc in absurd (omega arith)
@@ -200,9 +189,6 @@ module _ (key : List ℕ) (most : ℕ) (text : List ℕ) where
       let h = held (hasLine key text) (numberIn most (lineValue key text)) n e in
       let p = number-put most (lineValue key text) n (h .1) in
       (h .0, p .0, p .1)
-
-  pub field-in-line : isNumber (fieldIn key most text) ≡ true → hasLine key text ≡ true
-  field-in-line e = field-put (valueIn (fieldIn key most text)) (is-number (fieldIn key most text) e) .0
 
   pub field-at-most : valueIn (fieldIn key most text) ≤ most
   field-at-most = at-most most (fieldIn key most text) (λ n e. field-put n e .2)

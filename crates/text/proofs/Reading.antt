@@ -3,14 +3,15 @@ use mathlib.Core.Path.{_≡_, refl, sym, ap, _∙_}
 use mathlib.Core.Bool.{Bool, true, false, not, _&&_, and-true, and-false, and-assoc, and-eq-true-iff, cond, false≢true}
 use mathlib.Core.List.{List, [], _∷_, _++_, append-assoc, append-nil}
 use Prim.Native.Nat.{ℕ, zero, suc, _+_, _-_, _*_, _/_, _%_, _^_, _≤_, _<_}
-use native.Mathlib.Nat.{le-trans, lt-of-lt-of-le, le-mul-of-pos-right, mul-le-mul-right, mul-assoc, mul-one, add-zero, pow-zero, pow-suc, pow-succ', mod-lt, div-add-mod', div-lt-iff-lt-mul}
+use native.Mathlib.Nat.{le-trans, lt-of-lt-of-le, le-mul-of-pos-right, mul-le-mul-right, mul-assoc, mul-one, add-zero, pow-zero, pow-succ', mod-lt}
 use native.Mathlib.Decide.{decLt, decLe}
 use native.Mathlib.Omega.{arith}
 use lib.Dec.{leb, ltb, eqb}
 use lib.ListN.{length, getD}
 use borrow.Author.Tests.{lt-ltb, le-ltb, le-leb, lt-leb, eq-eqb, ne-eqb, ltb-true, eqb-false, not-true}
-use Rattle.text.specs.Numbers.{digit, digits, decimal, spelled}
-use Rattle.text.specs.Fields.{lineLength, digitIn, areDigits, numberOf, isDecimal, numberIn, bitsIn, withinIn}
+use Rattle.text.specs.Numbers.{digit, digits, decimal}
+use Rattle.text.specs.Fields.{lineLength, digitIn, areDigits, numberOf, isDecimal, numberIn, bitsIn}
+use Rattle.text.specs.declared.numbers.Number.{Number}
 use Rattle.text.specs.declared.numbers.Number.the-variants.{Is, Malformed}
 use Rattle.text.proofs.Digits.{decimal-small, decimal-large}
 
@@ -79,7 +80,7 @@ unfolding areDigits
 digits-last b d [] = and-true (ltb (digitIn d) b)
 digits-last b d (e ∷ ds) = rw (digits-last b d ds, and-assoc)
 
-number-last : (b a d : ℕ) (ds : List ℕ) → numberOf b a (ds ++ (d ∷ [])) ≡ numberOf b a ds * b + digitIn d
+pub number-last : (b a d : ℕ) (ds : List ℕ) → numberOf b a (ds ++ (d ∷ [])) ≡ numberOf b a ds * b + digitIn d
 unfolding numberOf
 number-last b a d [] = refl
 number-last b a d (e ∷ ds) = number-last b (a * b + digitIn e) d ds
@@ -99,16 +100,11 @@ below-power b a (d ∷ ds) e =
     let t = digits-cons b d ds e in
     lt-of-lt-of-le (below-power b (a * b + digitIn d) ds (t .1)) (rw (pow-succ', ← mul-assoc) (mul-le-mul-right (b ^ length ds) (omega (arith, t .0))))
 
--- decimal digits spell their number
-decimal-number : (a : ℕ) (ds : List ℕ) → areDigits 10 ds ≡ true → numberOf 10 a ds ≡ spelled a ds
-unfolding numberOf spelled
-decimal-number a [] e = refl
-decimal-number a (d ∷ ds) e =
-    let t = digits-cons 10 d ds e in
-    let r = decimal-range d (t .0) in
-    rw (digit-ten d (r .0) (r .1)) (decimal-number (a * 10 + (d - 48)) ds (t .1))
-
 -- ---- a number of at most a bound
+
+-- what `read_digits` ensures, with digits before these that stand for a
+unfoldable pub withinIn : (base most a : ℕ) → List ℕ → Number
+withinIn base most a ds = cond (areDigits base ds && leb (numberOf base a ds) most) (Is (numberOf base a ds)) Malformed
 
 module _ (b most a : ℕ) where
   pub within-end : a ≤ most → withinIn b most a [] ≡ Is a
@@ -137,12 +133,7 @@ decimal-is (d ∷ e ∷ ds) h z = rw (ne-eqb d 48 (z (omega arith)))
 module _ (most : ℕ) where
   pub number-within : (ds : List ℕ) → 1 ≤ length ds → (1 < length ds → getD ds 0 0 ≡ 48 → ⊥) → withinIn 10 most 0 ds ≡ numberIn most ds
   unfolding withinIn numberIn
-  number-within ds h z = rw (decimal-is ds h z) (by-digits (areDigits 10 ds) refl)
-    where
-      by-digits : (t : Bool) → areDigits 10 ds ≡ t
-          → cond (t && leb (numberOf 10 0 ds) most) (Is (numberOf 10 0 ds)) Malformed ≡ cond (t && leb (spelled 0 ds) most) (Is (spelled 0 ds)) Malformed
-      by-digits true e = rw (decimal-number 0 ds e)
-      by-digits false e = refl
+  number-within ds h z = rw (decimal-is ds h z)
 
   pub number-empty : (ds : List ℕ) → length ds ≡ 0 → numberIn most ds ≡ Malformed
   unfolding numberIn isDecimal
@@ -177,13 +168,6 @@ module _ (b : ℕ) (h : 0 < b) (g : b ≤ 16) where
   put-are-digits (suc k) n =
       rw (digits-last, put-are-digits k (n / b), read-digit (n % b) (lt-of-lt-of-le (mod-lt n h) g)) (lt-ltb (n % b) b (mod-lt n h))
 
-  pub put-number : (k n : ℕ) → n < b ^ k → numberOf b 0 (digits b k n) ≡ n
-  unfolding digits numberOf
-  put-number zero n l = let s : n < 1 = rw pow-zero at l in omega arith
-  put-number (suc k) n l =
-      rw (number-last, put-number k (n / b) (div-lt-iff-lt-mul h .1 (rw pow-suc at l)), read-digit (n % b) (lt-of-lt-of-le (mod-lt n h) g))
-      (div-add-mod' n b)
-
 -- no digit is a newline
 pub digits-no-newline : (b : ℕ) (ds : List ℕ) → b ≤ 16 → areDigits b ds ≡ true → lineLength ds ≡ length ds
 unfolding lineLength
@@ -194,15 +178,15 @@ digits-no-newline b (d ∷ ds) g e =
 
 -- ---- digits that are read, put again
 
-decimal-again : (a : ℕ) (ds : List ℕ) → 1 ≤ a → areDigits 10 ds ≡ true → decimal (spelled a ds) ≡ decimal a ++ ds
-unfolding spelled
+decimal-again : (a : ℕ) (ds : List ℕ) → 1 ≤ a → areDigits 10 ds ≡ true → decimal (numberOf 10 a ds) ≡ decimal a ++ ds
+unfolding numberOf
 decimal-again a [] h e = sym (append-nil (decimal a))
 decimal-again a (d ∷ ds) h e =
     let t = digits-cons 10 d ds e in
     let r = decimal-range d (t .0) in
-    let n : ℕ = a * 10 + (d - 48) in
+    let n : ℕ = a * 10 + digitIn d in
     let q : n / 10 ≡ a = omega arith in
-    let m : 48 + n % 10 ≡ d = omega arith in
+    let m : 48 + n % 10 ≡ d = omega (arith, digit-ten d (r .0) (r .1)) in
     decimal-again n ds (omega arith) (t .1)
     ∙ ap (λ (l : List ℕ). l ++ ds) (rw (q, m) at (decimal-large n (omega arith)))
     ∙ append-assoc (decimal a) (d ∷ []) ds
@@ -220,19 +204,19 @@ hexadecimal-again k a (d ∷ ds) e =
     ∙ hexadecimal-again (suc k) n ds (t .1)
     ∙ rw (q, m, put-digit d (t .0)) (append-assoc (digits 16 k a) (d ∷ []) ds)
 
-first-digit : (d : ℕ) → digitIn d < 10 → decimal (0 + (d - 48)) ≡ d ∷ []
+first-digit : (d : ℕ) → digitIn d < 10 → decimal (0 + digitIn d) ≡ d ∷ []
 first-digit d h =
     let r = decimal-range d h in
-    let m : 48 + (0 + (d - 48)) ≡ d = omega arith in
-    rw m at (decimal-small (0 + (d - 48)) (omega arith))
+    let m : 48 + (0 + digitIn d) ≡ d = omega (arith, digit-ten d (r .0) (r .1)) in
+    rw m at (decimal-small (0 + digitIn d) (omega arith))
 
-pub decimal-spelled : (ds : List ℕ) → isDecimal ds ≡ true → ds ≡ decimal (spelled 0 ds)
-unfolding isDecimal spelled
-decimal-spelled [] e = absurd (false≢true e)
-decimal-spelled (d ∷ []) e = sym (first-digit d (digits-cons 10 d [] e .0))
-decimal-spelled (d ∷ f ∷ ds) e =
+pub decimal-whole : (ds : List ℕ) → isDecimal ds ≡ true → ds ≡ decimal (numberOf 10 0 ds)
+unfolding isDecimal numberOf
+decimal-whole [] e = absurd (false≢true e)
+decimal-whole (d ∷ []) e = sym (first-digit d (digits-cons 10 d [] e .0))
+decimal-whole (d ∷ f ∷ ds) e =
     let t = both (not (eqb d 48)) (areDigits 10 (d ∷ f ∷ ds)) e in
     let u = digits-cons 10 d (f ∷ ds) (t .1) in
     let r = decimal-range d (u .0) in
     let z : d ≡ 48 → ⊥ = eqb-false d 48 (not-true (eqb d 48) (t .0)) in
-    sym (decimal-again (0 + (d - 48)) (f ∷ ds) (omega arith) (u .1) ∙ ap (λ (l : List ℕ). l ++ (f ∷ ds)) (first-digit d (u .0)))
+    sym (decimal-again (0 + digitIn d) (f ∷ ds) (omega (arith, digit-ten d (r .0) (r .1))) (u .1) ∙ ap (λ (l : List ℕ). l ++ (f ∷ ds)) (first-digit d (u .0)))

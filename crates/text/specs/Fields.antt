@@ -5,7 +5,6 @@ use mathlib.Core.List.{List, [], _∷_}
 use lib.Dec.{leb, ltb, eqb}
 use lib.IntN.{pos, negsuc}
 use lib.ListN.{length, take, drop}
-use Rattle.text.specs.Numbers.{spelled}
 use Rattle.text.specs.declared.numbers.Number.{Number}
 use Rattle.text.specs.declared.numbers.Number.the-variants.{Is, Malformed}
 use Rattle.text.specs.declared.numbers.Signed.{Signed}
@@ -58,7 +57,7 @@ isDecimal (d ∷ e ∷ ds) = not (eqb d 48) && areDigits 10 (d ∷ e ∷ ds)
 
 -- "A number that its field's width can't hold is malformed": the most that the field holds, and its bytes
 unfoldable pub numberIn : ℕ → List ℕ → Number
-numberIn most ds = cond (isDecimal ds && leb (spelled 0 ds) most) (Is (spelled 0 ds)) Malformed
+numberIn most ds = cond (isDecimal ds && leb (numberOf 10 0 ds) most) (Is (numberOf 10 0 ds)) Malformed
 
 -- the number after a minus: "`-0` is malformed"
 unfoldable pub minus : Number → Signed
@@ -80,17 +79,14 @@ signedIn (d ∷ ds) = cond (eqb d 45) (minus (numberIn 32768 ds)) (plus (numberI
 unfoldable pub bitsIn : List ℕ → Number
 bitsIn ds = cond (eqb (length ds) 8 && areDigits 16 ds) (Is (numberOf 16 0 ds)) Malformed
 
--- the number of digits of a base, after others that stand for a, where it is at most a bound: both kinds of number are read so
-unfoldable pub withinIn : ℕ → ℕ → ℕ → List ℕ → Number
-withinIn base most a ds = cond (areDigits base ds && leb (numberOf base a ds) most) (Is (numberOf base a ds)) Malformed
-
 -- ---- a line with a number
 
--- whether there is a number, and which one, or 0
+-- whether there is a number
 unfoldable pub isNumber : Number → Bool
 isNumber (Is n) = true
 isNumber Malformed = false
 
+-- and which one, or 0
 unfoldable pub valueIn : Number → ℕ
 valueIn (Is n) = n
 valueIn Malformed = 0

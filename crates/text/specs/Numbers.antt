@@ -1,5 +1,5 @@
 -- Document 01, "Call texts": numbers as text, in ASCII.
-use Prim.Native.Nat.{ℕ, zero, suc, _+_, _-_, _*_, _/_, _%_, max}
+use Prim.Native.Nat.{ℕ, zero, suc, _+_, _-_, _/_, _%_, max}
 use mathlib.Core.Bool.{cond}
 use mathlib.Core.List.{List, [], _∷_, _++_}
 use lib.Dec.{ltb}
@@ -27,8 +27,3 @@ decimal n = digits 10 (max 1 (significant n n)) n
 -- "word in 16 upper-case hexadecimal digits", here in k
 unfoldable pub hexadecimal : ℕ → ℕ → List ℕ
 hexadecimal k n = digits 16 k n
-
--- the number that decimal digits spell, the most significant first, after others that spell a
-unfoldable pub spelled : ℕ → List ℕ → ℕ
-spelled a [] = a
-spelled a (d ∷ ds) = spelled (a * 10 + (d - 48)) ds

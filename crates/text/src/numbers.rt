@@ -1,11 +1,14 @@
 // A number's digits, put and read.
 ghost use mathlib.Core.Path.{_≡_};
+ghost use mathlib.Core.Bool.{_&&_, cond};
 ghost use Prim.Native.Nat.{_+_, _≤_, _<_};
+ghost use lib.Dec.{leb};
 ghost use lib.Ieee.{binary32, ofBits};
 ghost use lib.ListN.{length};
 ghost use Rattle.text.specs.Numbers.{digit as digitOf, digits, decimal};
 ghost use Rattle.text.specs.Lines.{written};
-ghost use Rattle.text.specs.Fields.{digitIn, numberIn, signedIn, bitsIn, withinIn};
+ghost use Rattle.text.specs.Fields.{digitIn, areDigits, numberOf, numberIn, signedIn, bitsIn};
+ghost use Rattle.text.specs.declared.numbers.Number.the-variants.{Is, Malformed};
 
 pub enum Number {
     Is(u64),
@@ -71,7 +74,7 @@ fn digit_in(byte: u8) -> u64
 // The number of digits of a base, where it is at most `most`. What has been read never passes it, so nothing overflows.
 fn read_digits(digits: &[u8], base: u64, most: u64) -> Number
     requires { ⌜ (0 < base) × (base ≤ 16) ⌝ }
-    ensures { λ r. ⌜ r ≡ withinIn base most 0 (now (digits .entry)) ⌝ }
+    ensures { λ r. ⌜ r ≡ cond (areDigits base (now (digits .entry)) && leb (numberOf base 0 (now (digits .entry))) most) (Is (numberOf base 0 (now (digits .entry)))) Malformed ⌝ }
 {
     let mut value: u64 = 0;
     let mut i = 0;

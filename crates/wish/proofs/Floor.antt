@@ -1,4 +1,4 @@
--- What rounding down means: with z the units and n / d the exact value, z ≤ n / d < z + 1, over the integers z * d ≤ n < (z + 1) * d. Assumes nothing.
+-- The units are the floor of the exact value. Assumes nothing.
 use mathlib.Core.Path.{_≡_, refl, sym, ap, _∙_, subst}
 use Prim.Native.Nat.{ℕ, zero, suc, _+_, _-_, _*_, _/_, _≤_, _<_}
 use native.Mathlib.Nat.{le-of-suc-le-suc, lt-of-not-le, suc-mul, zero-mul, mod-lt, div-add-mod'}
@@ -10,14 +10,10 @@ use lib.IntN.{ℤ, pos, negsuc, negℤ, predℤ, _+ℤ_, _-ℤ_, _*ℤ_, +ℤ-on
 use lib.Signed.{leZ, ltZ, _≤ℤ_, _<ℤ_, leZ-yes, ltZ-yes, ltZ-no, clashℤ}
 use lib.Ieee.{Float, fin, up, down}
 use lib.Ieee.Fits.{down-pos}
-use Rattle.wish.specs.Rounding.{signed, roundedSize, roundedTimes}
+use Rattle.wish.specs.Rounding.{signed, roundedSize, roundedTimes, Floor}
 use Rattle.wish.specs.Units.{liesWithin, unitsWithin, accelerationUnits, targetUnits}
 use Rattle.wish.specs.declared.Converted.the-variants.{Units, Outside}
 use Rattle.wish.proofs.Rounding.{ceil-ge, ceil-le}
-
-pub record Floor (z n : ℤ) (d : ℕ) : Type 0 where
-  pub not-above : (z *ℤ pos d) ≤ℤ n
-  pub next-above : n <ℤ ((z +ℤ pos 1) *ℤ pos d)
 
 -- ---- of a fraction
 neg-le : (a b : ℕ) → a ≤ b → negℤ (pos b) ≤ℤ negℤ (pos a)

@@ -2,22 +2,21 @@
 use mathlib.Core.Path.{_≡_, sym, ap, ap₂, _∙_, subst}
 use mathlib.Core.Bool.{false}
 use Prim.Native.Nat.{ℕ, _+_, _-_, _^_, _≤_, _<_, min}
-use native.Mathlib.Nat.{le-trans, min-le-left, min-le-right}
+use native.Mathlib.Nat.{min-le-right}
 use native.Mathlib.Omega.{arith}
 use lib.Dec.{lit≤}
-use lib.IntN.{ℤ, pos, negℤ, natAbs, _+ℤ_, _-ℤ_}
+use lib.IntN.{ℤ, pos, negℤ, _+ℤ_, _-ℤ_}
 use lib.Signed.{_≤ℤ_}
 use lib.Ieee.Exact.{HasValue}
 use Rattle.wish.specs.Trimming.{smallerOf, trimmedInto, trimmedTo}
 use Rattle.wish.specs.Reading.{readingOf}
-use Rattle.wish.proofs.Trimming.{smaller-pos, below-both, not-below-low, inside-kept, pos-minus, between, sum-between, size-between}
+use Rattle.wish.proofs.Trimming.{smaller-pos, below-both, not-below-low, inside-kept, pos-minus, between, sum-between}
 use Rattle.wish.proofs.Quotients.{doubleOf-exact}
 
 -- The speed v, with the units w trimmed for it and added.
 pub record NewSpeed (w : ℤ) (v hardest most limit : ℕ) : Type 0 where
   pub speed : ℕ
   pub is : pos v +ℤ trimmedTo w v hardest most limit ≡ pos speed
-  pub falls-at-most : v - hardest ≤ speed
   pub rises-at-most : speed ≤ v + most
   pub within-limit : speed ≤ limit
 
@@ -47,21 +46,13 @@ module _ (w : ℤ) (v hardest most limit : ℕ) where
         ap₂ (λ (l h : ℤ). trimmedInto l h w) low-is
         (ap (smallerOf (pos most)) (pos-minus limit v allowed) ∙ smaller-pos most (limit - v))
 
-    -- a speed within the limit stays there, and changes by no more than the rates
+    -- a speed within the limit stays there, and rises by no more than `most`
     pub new-speed : NewSpeed w v hardest most limit
     new-speed =
         let k = min hardest v in
         let h = min most (limit - v) in
         let s = sum-between v k h (min-le-right hardest v) (between k h w) in
-        record { speed = s .value; is = ap (λ (t : ℤ). pos v +ℤ t) ends ∙ s .is; falls-at-most = omega arith; rises-at-most = omega arith; within-limit = omega arith }
-
-    -- trimmed units are no larger than a bound on the two rates
-    pub trimmed-size : (b : ℕ) → hardest ≤ b → most ≤ b → natAbs (trimmedTo w v hardest most limit) ≤ b
-    trimmed-size b p q =
-        let k = min hardest v in
-        let h = min most (limit - v) in
-        subst (λ (t : ℤ). natAbs t ≤ b) (sym ends)
-        (size-between k h b (le-trans (min-le-left hardest v) p) (le-trans (min-le-left most (limit - v)) q) (between k h w))
+        record { speed = s .value; is = ap (λ (t : ℤ). pos v +ℤ t) ends ∙ s .is; rises-at-most = omega arith; within-limit = omega arith }
 
 -- both doubles of a reading are exact
 pub reading-exact : (p v : ℕ) → p < 2 ^ 53 → v < 2 ^ 53 → HasValue (readingOf p v .position) false p 2048 × HasValue (readingOf p v .speed) false v 128

@@ -6,7 +6,7 @@ use native.Mathlib.Nat.{le-refl, le-trans, le-of-lt, min-le-left, min-eq-left, m
 use native.Mathlib.Omega.{arith}
 use borrow.Author.Tests.{ltb-true, ltb-false, le-ltb}
 use lib.Dec.{T, ltb}
-use lib.IntN.{ℤ, pos, negsuc, negℤ, natAbs, _+ℤ_, _-ℤ_}
+use lib.IntN.{ℤ, pos, negsuc, negℤ, _+ℤ_, _-ℤ_}
 use lib.Signed.{ltZ, _≤ℤ_, ≤ℤ-refl, ltZ-yes, ltZ-no, clashℤ}
 use Rattle.wish.specs.Trimming.{smallerOf, trimmedInto}
 
@@ -84,14 +84,8 @@ pos-minus v (suc k) h = ap (λ (b : Bool). cond b (negsuc (suc k - suc v)) (pos 
 pub record Sum (v k h : ℕ) (t : ℤ) : Type 0 where
   pub value : ℕ
   pub is : pos v +ℤ t ≡ pos value
-  pub low : v - k ≤ value
   pub high : value ≤ v + h
 
 pub sum-between : (v k h : ℕ) {t : ℤ} → k ≤ v → Between k h t → Sum v k h t
-sum-between v k h p (fall n q) = record { value = v - n; is = pos-minus v n (le-trans q p); low = omega arith; high = omega arith }
-sum-between v k h p (rise n q) = record { value = v + n; is = refl; low = omega arith; high = omega arith }
-
-pub size-between : (k h b : ℕ) {t : ℤ} → k ≤ b → h ≤ b → Between k h t → natAbs t ≤ b
-size-between k h b p q (fall zero r) = zero-le
-size-between k h b p q (fall (suc n) r) = le-trans r p
-size-between k h b p q (rise n r) = le-trans r q
+sum-between v k h p (fall n q) = record { value = v - n; is = pos-minus v n (le-trans q p); high = omega arith }
+sum-between v k h p (rise n q) = record { value = v + n; is = refl; high = omega arith }

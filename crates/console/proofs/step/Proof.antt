@@ -1,6 +1,5 @@
 -- `console::step` meets its contract: nothing is done in a short buffer or at the end of the input, else the block is read and run.
 use borrow.Author.Needs.{needs}
-use mathlib.Core.Path.{refl}
 use native.Mathlib.Omega.{arith}
 use lib.ListN.{drop, length-drop}
 use Rattle.lane.specs.State.{stateOf}
@@ -15,7 +14,7 @@ returns : tie.Need-returns
 returns c =
     let a = c .before .before .before .before .args in
     rw (c .halted .ensures, too-short (a .out .now) (stateOf (a .l)) (drop (a .at) (a .input .now)) (c .before .if1 .taken))
-    (gives-halted (a .l) (a .at) (a .out .now), λ h. refl)
+    (gives-halted (a .l) (a .at) (a .out .now))
 
 halted-requires-2 : tie.Need-halted-requires-2
 halted-requires-2 c κs = search needs
@@ -25,7 +24,7 @@ returns-2 c =
     let a = c .before .before .before .before .before .args in
     let t = drop (a .at) (a .input .now) in
     rw (c .halted2 .ensures, step-into (a .out .now) (stateOf (a .l)) t (omega arith), at-end (stateOf (a .l)) t (omega (arith, length-drop (a .at) (a .input .now))))
-    (gives-halted (a .l) (a .at) (a .out .now), λ h. refl)
+    (gives-halted (a .l) (a .at) (a .out .now))
 
 block-requires : tie.Need-block-requires
 block-requires c κs = search needs
@@ -40,7 +39,7 @@ returns-3 c =
     let a = else .before .before .before .before .args in
     let t = drop (a .at) (a .input .now) in
     rw (step-into (a .out .now) (stateOf (a .l)) t (omega arith), at-block (stateOf (a .l)) t (λ e. omega (arith, length-drop (a .at) (a .input .now))))
-    (told .block .ensures, λ h. absurd (omega arith))
+    (told .block .ensures)
 
 pub step-spec : {M : Type 1} → statement M
 step-spec =

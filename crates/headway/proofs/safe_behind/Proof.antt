@@ -19,7 +19,7 @@ returns-2 c =
 returns-3 : tie.Need-returns-3
 returns-3 c =
     let a = c .before .before .before .args in
-    unsafe-level (a .guaranteed) (a .hardest) (a .position) (a .speed) (a .leader-position) (a .leader-speed) (c .before .before .if1 .left) (c .before .if2 .left) (c .if3 .taken)
+    unsafe-level (a .guaranteed) (a .hardest) (a .position) (a .speed) (a .leader-position) (a .leader-speed) (c .before .before .if1 .left) (c .before .if2 .left) (omega arith)
 
 distance-requires : tie.Need-distance-requires
 distance-requires c κs = search needs
@@ -42,7 +42,7 @@ returns-4 c =
     let s = c .before .before in
     let a = s .before .before .before .args in
     rw (c .before .distance .ensures, c .distance2 .ensures)
-    (safe-by-stops (a .guaranteed) (a .hardest) (a .position) (a .speed) (a .leader-position) (a .leader-speed) (s .before .before .if1 .left) (s .before .if2 .left) (s .if3 .left))
+    (safe-by-stops (a .guaranteed) (a .hardest) (a .position) (a .speed) (a .leader-position) (a .leader-speed) (s .before .before .if1 .left) (s .before .if2 .left) (omega arith))
 
 pub safe-behind-spec : {M : Type 1} → statement M
 safe-behind-spec =

@@ -1,21 +1,19 @@
 -- `host::rondavitse_cycle` meets its contract: wishes that cannot be made refuse the call, else it is the lane's cycle with those made.
 use borrow.Author.Needs.{needs}
-use borrow.Author.Tests.{ne-eqb}
-use mathlib.Core.Path.{_≡_, refl, ap, _∙_}
-use mathlib.Core.Bool.{cond}
+use mathlib.Core.Path.{_≡_, refl, sym, ap, _∙_}
 use Prim.Native.Nat.{ℕ}
-use lib.Dec.{eqb}
 use Rattle.lane.specs.State.{stateOf}
-use Rattle.lane.specs.Calls.{cycleNo, cycleWord, cycleReplaced, cycleGone, cycleState}
+use Rattle.lane.specs.Calls.{ifAccepted, cycleNo, cycleWord, cycleReplaced, cycleGone, cycleState}
+use Rattle.lane.proofs.Laws.{refused-has, accepted-has}
 use Rattle.host.proofs.rondavitse_cycle.Statement.{statement}
 use Rattle.host.proofs.rondavitse_cycle.Tie as tie
 
 -- the wishes' own number decides
-refused-by : {A : Type 0} (n m : ℕ) (x y : A) → n ≡ m → (n ≡ 0 → ⊥) → y ≡ cond (eqb m 0) x y
-refused-by n m x y e h = rw (← e, ne-eqb n 0 h) refl
+refused-by : {A : Type 0} (n m : ℕ) (x y : A) → n ≡ m → (n ≡ 0 → ⊥) → y ≡ ifAccepted m x y
+refused-by n m x y e h = sym (refused-has m x y (λ z. h (e ∙ z)))
 
-accepted-as : {A : Type 0} (n m : ℕ) (x y z : A) → n ≡ m → n ≡ 0 → z ≡ x → z ≡ cond (eqb m 0) x y
-accepted-as n m x y z e h f = rw (← e, h) f
+accepted-as : {A : Type 0} (n m : ℕ) (x y z : A) → n ≡ m → n ≡ 0 → z ≡ x → z ≡ ifAccepted m x y
+accepted-as n m x y z e h f = f ∙ sym (accepted-has m x y (sym e ∙ h))
 
 check-requires : tie.Need-check-requires
 check-requires c κs = search needs

@@ -6,25 +6,36 @@ use mathlib.Core.List.{List}
 use Prim.Native.Nat.{ℕ, _+_, _-_}
 use native.Mathlib.Omega.{arith}
 use lib.Count.{ones}
-use lib.ListN.{length, take}
-use lib.Seq.{length-take-le}
+use lib.ListN.{take}
 use Rattle.wish.specs.declared.Wish.{Wish}
 use Rattle.lane.specs.declared.Drive.{Drive}
 use Rattle.lane.specs.State.{State, stateOf}
 use Rattle.lane.specs.Safety.{nobody}
 use Rattle.lane.specs.Wishes.{drives, allMoved, anyOutside, replacedIn, wordOf, remaining}
-use Rattle.lane.specs.Calls.{cycleDrives, cycleCarriers}
-use Rattle.lane.proofs.Lists.{length-mapped}
+use Rattle.lane.specs.Calls.{withCarriers, cycleDrives, cycleCarriers}
 use Rattle.lane.proofs.Surfaces.{sound-row}
 use Rattle.lane.proofs.Words.{word-ones}
-use Rattle.lane.proofs.Answers.{state-with, drives-are, cycle-refused, cycle-outside, cycle-sound, cycle-counted, cycle-not-last, cycle-runs, run-word, run-replaced, run-gone, run-state}
+use Rattle.lane.proofs.Answers.{drives-are, cycle-refused, cycle-outside, cycle-sound, cycle-counted, cycle-not-last, cycle-runs, run-word, run-replaced, run-gone, run-state}
 use Rattle.lane.proofs.cycle.Statement.{statement}
 use Rattle.lane.proofs.cycle.Tie as tie
+
+-- the state with another cycle number
+abbrev numbered-as : ℕ → State → State
+numbered-as n s =
+    record {
+      started = s .started;
+      surface = s .surface;
+      end = s .end;
+      limit = s .limit;
+      cycle = n;
+      count = s .count;
+      carriers = s .carriers;
+    }
 
 -- a call that has passed the checks before its wishes: what was driven is what the definition says
 module _ (d : tie.After-drive-all) where
   abbrev k : tie.After-check-cycle
-  k = d .before .before .before .before
+  k = d .before .before .before
 
   abbrev s : State
   s = stateOf (k .before .args .l)
@@ -33,13 +44,13 @@ module _ (d : tie.After-drive-all) where
   ws = k .before .args .wishes
 
   passed : k .check-cycle .result ≡ 0
-  passed = d .before .before .before .if1 .left
+  passed = d .before .before .if1 .left
 
   counted : k .before .args .count ≡ s .count
   counted = cycle-counted s (k .before .args .count) ws (k .check-cycle .result) (k .check-cycle .ensures) passed
 
-  driven : drives (d .before .row .result) (s .limit) nobody (take (k .before .args .count) (k .before .args .l .carriers)) (take (k .before .args .count) ws) ≡ cycleDrives s ws
-  driven = drives-are s (d .before .row .result) (k .before .args .count) (k .before .args .l .carriers) ws (d .before .row .ensures) counted refl
+  driven : drives (d .before .row .result) (s .limit) nobody (s .carriers) (take (s .count) ws) ≡ cycleDrives s ws
+  driven = drives-are s (d .before .row .result) ws (d .before .row .ensures)
 
   outside-is : d .drive-all .result .outside ≡ anyOutside (cycleDrives s ws)
   outside-is = d .drive-all .ensures .0 ∙ ap anyOutside driven
@@ -49,14 +60,8 @@ module _ (d : tie.After-drive-all) where
     word-is : d .drive-all .result .word ≡ wordOf (replacedIn (cycleDrives s ws))
     word-is = d .drive-all .ensures .1 .0 inside ∙ ap (λ (ds : List Drive). wordOf (replacedIn ds)) driven
 
-    kept : take (d .drive-all .result .count) (d .drive-all .result .carriers) ≡ cycleCarriers s ws
-    kept = d .drive-all .ensures .1 .1 .0 inside ∙ ap₂ (λ (n : ℕ) (ds : List Drive). remaining (s .end) (allMoved (take n (k .before .args .l .carriers)) ds)) counted driven
-
-    left-is : d .drive-all .result .count ≡ length (cycleCarriers s ws)
-    left-is =
-        let long : length (d .drive-all .result .carriers) ≡ 64 = search (needs, length-mapped) in
-        let few = cycle-sound s (k .before .args .count) ws (k .check-cycle .result) (k .check-cycle .ensures) passed .count in
-        sym (length-take-le (d .drive-all .result .count) (d .drive-all .result .carriers) (omega (arith, d .drive-all .ensures .1 .1 .1, counted))) ∙ ap length kept
+    lane-is : stateOf (d .drive-all .result .lane) ≡ withCarriers s (cycleCarriers s ws)
+    lane-is = d .drive-all .ensures .1 .1 .0 inside ∙ ap (λ (ds : List Drive). withCarriers s (remaining (s .end) (allMoved (s .carriers) ds))) driven
 
 check-cycle-requires : tie.Need-check-cycle-requires
 check-cycle-requires c κs = search needs
@@ -76,13 +81,12 @@ row-requires c κs = search needs
 
 drive-all-requires : tie.Need-drive-all-requires
 drive-all-requires c κs =
-    let k = c .before .before .before in
+    let k = c .before .before in
     let a = k .before .args in
-    let h = c .before .before .if1 .left in
+    let h = c .before .if1 .left in
     let s = cycle-sound (stateOf (a .l)) (a .count) (a .wishes) (k .check-cycle .result) (k .check-cycle .ensures) h in
-    let n = cycle-counted (stateOf (a .l)) (a .count) (a .wishes) (k .check-cycle .result) (k .check-cycle .ensures) h in
     let r = sound-row (a .l .surface) (s .surface) in
-    rw (c .row .ensures, n)
+    rw (c .row .ensures)
     (((r .brakes, omega (arith, r .brakes, r .brakes-harder)), (s .count, (s .end-most, s .limit-most))), (s .speeds, s .positions))
 
 refused-cycle-requires-2 : tie.Need-refused-cycle-requires-2
@@ -100,18 +104,20 @@ add-next c =
     let last : k d .before .args .l .cycle ≡ 18446744073709551615 → ⊥ = cycle-not-last (s d) (k d .before .args .count) (ws d) (k d .check-cycle .result) (k d .check-cycle .ensures) (passed d) in
     omega arith
 
-sub-t17 : tie.Need-sub-t17
-sub-t17 c = search needs
+sub-t10 : tie.Need-sub-t10
+sub-t10 c =
+    let d = c .before .before .before .before .before in
+    omega (arith, d .drive-all .ensures .1 .1 .1, counted d)
 
-cast-t18 : tie.Need-cast-t18
-cast-t18 c =
-    let d = c .before .before .before in
+cast-t11 : tie.Need-cast-t11
+cast-t11 c =
+    let d = c .before .before .before .before .before in
     omega (arith, counted d, cycle-sound (s d) (k d .before .args .count) (ws d) (k d .check-cycle .result) (k d .check-cycle .ensures) (passed d) .count)
 
 returns-3 : tie.Need-returns-3
 returns-3 c =
-    let d = c .before .before .before in
-    let i = c .before .before .if2 .left in
+    let d = c .before .before .before .before .before in
+    let i = c .before .before .before .before .if2 .left in
     let n = k d .check-cycle .result in
     let e = k d .check-cycle .ensures in
     let o = sym (outside-is d) ∙ i in (
@@ -121,10 +127,9 @@ returns-3 c =
         (
           ap ones (word-is d i) ∙ word-ones (replacedIn (cycleDrives (s d) (ws d))) ∙ run-replaced (s d) (k d .before .args .count) (ws d) n e (passed d) o,
           (
-            ap₂ _-_ (counted d) (left-is d i) ∙ run-gone (s d) (k d .before .args .count) (ws d) n e (passed d) o,
+            ap₂ _-_ (counted d) (ap (λ (x : State). x .count) (lane-is d i)) ∙ run-gone (s d) (k d .before .args .count) (ws d) n e (passed d) o,
             (
-              state-with (s d) (k d .before .args .l .cycle + 1) (d .drive-all .result .count) (take (d .drive-all .result .count) (d .drive-all .result .carriers)) (cycleCarriers (s d) (ws d)) (left-is d i) (kept d i)
-                  ∙ run-state (s d) (k d .before .args .count) (ws d) n e (passed d) o,
+              ap (numbered-as (s d .cycle + 1)) (lane-is d i) ∙ run-state (s d) (k d .before .args .count) (ws d) n e (passed d) o,
               λ x. absurd (omega arith),
             ),
           ),
@@ -144,6 +149,6 @@ cycle-spec =
     refused-cycle-requires-2
     returns-2
     add-next
-    sub-t17
-    cast-t18
+    sub-t10
+    cast-t11
     returns-3)

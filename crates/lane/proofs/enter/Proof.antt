@@ -10,8 +10,9 @@ use Rattle.lane.specs.declared.Lane.{Lane}
 use Rattle.lane.specs.State.{stateOf}
 use Rattle.lane.specs.Calls.{carrier, withCarriers, insertAt, enterPlace, enterNo}
 use Rattle.lane.proofs.Lists.{length-mapped}
+use Rattle.lane.proofs.Records.{carriers-are}
 use Rattle.lane.proofs.Entering.{insert-length}
-use Rattle.lane.proofs.Answers.{state-with, enter-refused, enter-room, enter-place, enter-accepted, walk-le}
+use Rattle.lane.proofs.Answers.{enter-refused, enter-room, enter-place, enter-accepted, walk-le}
 use Rattle.lane.proofs.enter.Statement.{statement}
 use Rattle.lane.proofs.enter.Tie as tie
 
@@ -71,7 +72,7 @@ returns-2 c =
       (
         e,
         (
-          state-with (stateOf a) (a .cycle) (a .count + 1) (take (a .count + 1) (c .inserted .result)) cs
+          carriers-are a a (a .count + 1) (c .inserted .result) cs refl
               (omega (arith, insert-length (newcomer k h) place (take (a .count) (a .carriers)), counted k h))
               (c .inserted .ensures)
               ∙ ap (λ (n : ℕ). withCarriers (stateOf a) (insertAt n (newcomer k h) (take (a .count) (a .carriers)))) e

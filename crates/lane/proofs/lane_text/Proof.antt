@@ -28,19 +28,19 @@ returns c =
     (t .0, (t .1 .0, (t .1 .1, λ e. absurd (omega arith))))
 
 text-length-requires : tie.Need-text-length-requires
-text-length-requires c κs = few (c .before)
+text-length-requires c κs = few c
 
 returns-2 : tie.Need-returns-2
 unfolding laneText
 returns-2 c =
-    let passed = c .before .before .before in
+    let passed = c .before .before in
     let a = passed .before .before .before .args in
     let t = text-too-long (stateOf (a .l)) (a .out .now) (unbroken passed) (c .before .text-length .ensures .0) (c .if2 .taken) in
     (t .0, (t .1 .0, (t .1 .1, λ e. omega (arith, c .before .text-length .ensures .1, c .if2 .taken))))
 
 put-text-requires : tie.Need-put-text-requires
 put-text-requires c κs =
-    let long = c .before .before in (few (long .before .before), omega (arith, long .text-length .ensures .0))
+    let long = c .before .before in (few (long .before), omega (arith, long .text-length .ensures .0))
 
 same-length : tie.Need-same-length
 same-length c = search needs
@@ -50,7 +50,7 @@ unfolding laneText
 returns-3 c =
     let put = c .before .before in
     let fits = put .before .before in
-    let passed = fits .before .before .before in
+    let passed = fits .before .before in
     let a = passed .before .before .before .args in
     let t = text-fits (stateOf (a .l)) (a .out .now) (unbroken passed) (fits .before .text-length .ensures .0) (fits .if2 .left) (put .put-text .ensures) in
     (t .0, (t .1 .0, (t .1 .1, λ e. absurd (omega arith))))

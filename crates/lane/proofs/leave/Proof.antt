@@ -7,7 +7,8 @@ use lib.ListN.{length, take}
 use Rattle.lane.specs.State.{stateOf}
 use Rattle.lane.specs.Calls.{withCarriers, removeAt, namedPlace}
 use Rattle.lane.proofs.Lists.{length-mapped}
-use Rattle.lane.proofs.Answers.{state-with, At, named-at, leave-refused, leave-accepted, length-removed}
+use Rattle.lane.proofs.Records.{carriers-are}
+use Rattle.lane.proofs.Answers.{At, named-at, leave-refused, leave-accepted, length-removed}
 use Rattle.lane.proofs.leave.Statement.{statement}
 use Rattle.lane.proofs.leave.Tie as tie
 
@@ -44,7 +45,7 @@ returns-2 c =
     let cs = removeAt place (take (a .count) (a .carriers)) in (
       sym h ∙ k .check-named .ensures .0,
       (
-        state-with (stateOf a) (a .cycle) (a .count - 1) (take (a .count - 1) (c .removed .result)) cs
+        carriers-are a a (a .count - 1) (c .removed .result) cs refl
             (sym (length-removed place (take (a .count) (a .carriers)) (omega (arith, p .within, p .counted)) ∙ ap (λ (n : ℕ). n - 1) (p .counted)))
             (c .removed .ensures)
             ∙ ap (λ (n : ℕ). withCarriers (stateOf a) (removeAt n (take (a .count) (a .carriers)))) e

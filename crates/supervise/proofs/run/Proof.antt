@@ -27,12 +27,12 @@ step-requires : tie.Need-step-requires Inv-loop μ-loop
 step-requires c κs = search needs
 
 array-share-prefix-space : tie.Need-array-share-prefix-space Inv-loop μ-loop
-array-share-prefix-space c = let g = c .before .step .ensures .0 in omega (arith, g .written-length, g .room)
+array-share-prefix-space c = let g = c .before .step .ensures in omega (arith, g .written-length, g .room)
 
 slice-aggregate-write-whole : tie.Need-slice-aggregate-write-whole Inv-loop μ-loop
 slice-aggregate-write-whole c =
     let k = c .before .before .step in
-    let g = k .ensures .0 in
+    let g = k .ensures in
     sym (length-take-le (k .result .written) (k .last .1 .1 .1 .0) (omega (arith, g .written-length, g .room)))
 
 write-whole-requires : tie.Need-write-whole-requires Inv-loop μ-loop

@@ -1,14 +1,12 @@
 -- `console::blocks::cycle_block` meets its contract: the lines of the wishes seen are in the array, and the buffer is as it was.
 use borrow.Author.Needs.{needs}
 use mathlib.Core.Path.{_≡_, refl, ap, _∙_}
-use mathlib.Core.List.{[]}
 use Prim.Native.Nat.{_-_}
 use native.Mathlib.Omega.{arith}
 use borrow.Author.Tests.{not-true, not-false}
-use lib.ListN.{length, drop, take}
-use Rattle.lane.specs.State.{stateOf}
+use lib.ListN.{length, drop}
 use Rattle.lane.specs.Listing.{cars-key}
-use Rattle.console.specs.Blocks.{afterLine, field, cycle-block, wants, cycleLines}
+use Rattle.console.specs.Blocks.{parsed, afterLine, field, cycle-block, wants, cycleLines}
 use Rattle.console.proofs.Lines.{Reads, first-read, field-read, field-most, field-missing, all-read, read-as}
 use Rattle.console.proofs.Wishing.{Asking, asking-start, asking-missing, asking-next, asking-end, asking-array}
 use Rattle.console.proofs.blocks.cycle_block.Statement.{statement}
@@ -25,7 +23,7 @@ abbrev start : tie.After-read-field Inv-loop μ-loop → tie.Start Inv-loop μ-l
 start c = c .before .before .before .before
 
 first : (c : tie.After-read-field Inv-loop μ-loop) → let a = start c .args in
-    Reads (a .input .now) (a .at) (a .first) (afterLine (drop (a .at) (a .input .now)) cycleLines) (λ t. field cars-key 64 t (λ cars. wants cars []))
+    Reads (a .input .now) (a .at) (a .first) (afterLine (drop (a .at) (a .input .now)) cycleLines) (λ t. field cars-key 64 t (λ cars t. wants cars t (λ ws t. parsed (cycle-block ws) 0)))
 unfolding cycleLines
 first c = let a = start c .args in first-read (a .input .now) (a .at) cycleLines (start c .pre .1)
 
@@ -46,7 +44,7 @@ returns c =
     let told = c .before .before in
     let then = told .before .before in
     let read = then .before .before in
-    read-as (stateOf (start read .args .l)) (field-missing _ _ _ (first read) (read .read-field .ensures) (not-true _ (then .if1 .taken))) (told .refused .ensures)
+    read-as (field-missing _ _ _ (first read) (read .read-field .ensures) (not-true _ (then .if1 .taken))) (told .refused .ensures)
 
 loop-holds : tie.Need-loop-holds Inv-loop μ-loop
 loop-holds c =
@@ -74,7 +72,7 @@ returns-2 c =
     let want = then .before .before in
     let at = want .before .before in
     let a = start (at .before .before .before) .args in
-    read-as (stateOf (a .l)) (asking-missing (at .loop .inv .1) (want .before .loop-test .taken) (want .read-want .ensures) (not-true _ (then .if2 .taken)))
+    read-as (asking-missing (at .loop .inv .1) (want .before .loop-test .taken) (want .read-want .ensures) (not-true _ (then .if2 .taken)))
     (rw (at .loop .inv .0) at (told .refused2 .ensures))
 
 mul-wishes : tie.Need-mul-wishes Inv-loop μ-loop
@@ -114,8 +112,7 @@ returns-3 c =
     let done = run .before .before in
     let at = done .before in
     let read = at .before .before .before in
-    all-read (stateOf (start read .args .l)) (cycle-block (take (read .read-field .result .value) (at .loop .wishes)))
-    (asking-end (at .loop .inv .1) (done .loop-test .left)) (rw (at .loop .inv .0) at (run .run-cycle .ensures))
+    all-read (asking-end (at .loop .inv .1) (done .loop-test .left)) (rw (at .loop .inv .0) at (run .run-cycle .ensures))
 
 pub cycle-block-spec : {M : Type 1} → statement M
 cycle-block-spec =

@@ -5,7 +5,6 @@ use Prim.Native.Nat.{ℕ}
 use native.Mathlib.Omega.{arith}
 use borrow.Author.Tests.{not-true, not-false}
 use lib.ListN.{drop}
-use Rattle.lane.specs.State.{stateOf}
 use Rattle.lane.specs.Listing.{car-key, at-key, speed-key}
 use Rattle.console.specs.Blocks.{Parsed, parsed, afterLine, field, bits16, bits32, enter-block, enterLines}
 use Rattle.console.proofs.Lines.{Reads, first-read, field-read, field-most, field-missing, all-read, read-as}
@@ -15,8 +14,27 @@ use Rattle.console.proofs.blocks.enter_block.Tie as tie
 abbrev start : tie.After-read-field → tie.Start
 start c = c .before .before .before .before
 
-abbrev whole : tie.After-read-field → Parsed
-whole c = let a = start c .args in afterLine (drop (a .at) (a .input .now)) enterLines
+abbrev Here : tie.After-read-field → ℕ → (List ℕ → Parsed) → Type 0
+Here c place rest = let a = start c .args in Reads (a .input .now) (a .at) place (afterLine (drop (a .at) (a .input .now)) enterLines) rest
+
+-- each field read, and the one before it
+abbrev read1 : tie.Else1 → tie.After-read-field
+read1 c = c .before .before
+
+abbrev back2 : tie.Else2 → tie.Else1
+back2 c = c .before .before .before .before
+
+abbrev back3 : tie.Else3 → tie.Else2
+back3 c = c .before .before .before .before
+
+abbrev car : tie.Else1 → ℕ
+car c = c .before .before .read-field .result .value
+
+abbrev at : tie.Else2 → ℕ
+at c = c .before .before .read-field2 .result .value
+
+abbrev speed : tie.Else3 → ℕ
+speed c = c .before .before .read-field3 .result .value
 
 abbrev speed-on : ℕ → ℕ → ℕ → List ℕ → Parsed
 speed-on car at speed t = parsed (enter-block car at speed) 0
@@ -27,22 +45,18 @@ at-on car at t = field speed-key bits32 t (speed-on car at)
 abbrev car-on : ℕ → List ℕ → Parsed
 car-on car t = field at-key bits32 t (at-on car)
 
-car-next : (c : tie.After-read-field) → let a = start c .args in
-    Reads (a .input .now) (a .at) (a .first) (whole c) (λ t. field car-key bits16 t car-on)
+car-next : (c : tie.After-read-field) → Here c (start c .args .first) (λ t. field car-key bits16 t car-on)
 unfolding enterLines
 car-next c = let a = start c .args in first-read (a .input .now) (a .at) enterLines (start c .pre .1)
 
-car-read : (c : tie.Else1) → let a = start (c .before .before) .args in
-    Reads (a .input .now) (a .at) (c .before .before .read-field .result .next) (whole (c .before .before)) (car-on (c .before .before .read-field .result .value))
-car-read c = field-read _ _ _ (car-next (c .before .before)) (c .before .before .read-field .ensures) (not-false _ (c .if1 .left))
+car-read : (c : tie.Else1) → Here (read1 c) (c .before .before .read-field .result .next) (car-on (car c))
+car-read c = field-read _ _ _ (car-next (read1 c)) (c .before .before .read-field .ensures) (not-false _ (c .if1 .left))
 
-at-read : (c : tie.Else2) → let a = start (c .before .before .before .before .before .before) .args in
-    Reads (a .input .now) (a .at) (c .before .before .read-field2 .result .next) (whole (c .before .before .before .before .before .before)) (at-on (c .before .before .before .before .before .before .read-field .result .value) (c .before .before .read-field2 .result .value))
-at-read c = field-read _ _ _ (car-read (c .before .before .before .before)) (c .before .before .read-field2 .ensures) (not-false _ (c .if2 .left))
+at-read : (c : tie.Else2) → Here (read1 (back2 c)) (c .before .before .read-field2 .result .next) (at-on (car (back2 c)) (at c))
+at-read c = field-read _ _ _ (car-read (back2 c)) (c .before .before .read-field2 .ensures) (not-false _ (c .if2 .left))
 
-speed-read : (c : tie.Else3) → let a = start (c .before .before .before .before .before .before .before .before .before .before) .args in
-    Reads (a .input .now) (a .at) (c .before .before .read-field3 .result .next) (whole (c .before .before .before .before .before .before .before .before .before .before)) (speed-on (c .before .before .before .before .before .before .before .before .before .before .read-field .result .value) (c .before .before .before .before .before .before .read-field2 .result .value) (c .before .before .read-field3 .result .value))
-speed-read c = field-read _ _ _ (at-read (c .before .before .before .before)) (c .before .before .read-field3 .ensures) (not-false _ (c .if3 .left))
+speed-read : (c : tie.Else3) → Here (read1 (back2 (back3 c))) (c .before .before .read-field3 .result .next) (speed-on (car (back2 (back3 c))) (at (back3 c)) (speed c))
+speed-read c = field-read _ _ _ (at-read (back3 c)) (c .before .before .read-field3 .ensures) (not-false _ (c .if3 .left))
 
 slice-aggregate-read-field : tie.Need-slice-aggregate-read-field
 slice-aggregate-read-field c = search needs
@@ -61,7 +75,7 @@ returns c =
     let told = c .before .before in
     let then = told .before .before in
     let read = then .before .before in
-    read-as (stateOf (start read .args .l)) (field-missing _ _ _ (car-next read) (read .read-field .ensures) (not-true _ (then .if1 .taken))) (told .refused .ensures)
+    read-as (field-missing _ _ _ (car-next read) (read .read-field .ensures) (not-true _ (then .if1 .taken))) (told .refused .ensures)
 
 slice-aggregate-read-field-2 : tie.Need-slice-aggregate-read-field-2
 slice-aggregate-read-field-2 c = search needs
@@ -80,7 +94,7 @@ returns-2 c =
     let told = c .before .before in
     let then = told .before .before in
     let read = then .before .before in
-    read-as (stateOf (start (read .before .before .before .before) .args .l)) (field-missing _ _ _ (car-read (read .before .before)) (read .read-field2 .ensures) (not-true _ (then .if2 .taken))) (told .refused2 .ensures)
+    read-as (field-missing _ _ _ (car-read (read .before .before)) (read .read-field2 .ensures) (not-true _ (then .if2 .taken))) (told .refused2 .ensures)
 
 slice-aggregate-read-field-3 : tie.Need-slice-aggregate-read-field-3
 slice-aggregate-read-field-3 c = search needs
@@ -99,25 +113,25 @@ returns-3 c =
     let told = c .before .before in
     let then = told .before .before in
     let read = then .before .before in
-    read-as (stateOf (start (read .before .before .before .before .before .before .before .before) .args .l)) (field-missing _ _ _ (at-read (read .before .before)) (read .read-field3 .ensures) (not-true _ (then .if3 .taken))) (told .refused3 .ensures)
+    read-as (field-missing _ _ _ (at-read (read .before .before)) (read .read-field3 .ensures) (not-true _ (then .if3 .taken))) (told .refused3 .ensures)
 
 cast-run-enter : tie.Need-cast-run-enter
 cast-run-enter c =
-    let else = c .before in
-    omega (arith, field-most _ _ _ (car-next (else .before .before .before .before .before .before .before .before .before .before)) (else .before .before .before .before .before .before .before .before .before .before .read-field .ensures))
+    let read = read1 (back2 (back3 (c .before))) in
+    omega (arith, field-most _ _ _ (car-next read) (read .read-field .ensures))
 
 cast-run-enter-2 : tie.Need-cast-run-enter-2
 cast-run-enter-2 c =
-    let else = c .before .before in
-    omega (arith, field-most _ _ _ (car-read (else .before .before .before .before .before .before .before .before)) (else .before .before .before .before .before .before .read-field2 .ensures))
+    let read = back3 (c .before .before) in
+    omega (arith, field-most _ _ _ (car-read (back2 read)) (read .before .before .read-field2 .ensures))
 
 cast-run-enter-3 : tie.Need-cast-run-enter-3
 cast-run-enter-3 c =
-    let else = c .before .before .before in
-    omega (arith, field-most _ _ _ (at-read (else .before .before .before .before)) (else .before .before .read-field3 .ensures))
+    let read = c .before .before .before in
+    omega (arith, field-most _ _ _ (at-read (back3 read)) (read .before .before .read-field3 .ensures))
 
 run-enter-requires : tie.Need-run-enter-requires
-run-enter-requires c κs = start (c .before .before .before .before .before .before .before .before .before .before .before .before .before .before) .pre .0
+run-enter-requires c κs = start (read1 (back2 (back3 (c .before .before .before .before)))) .pre .0
 
 same-length-4 : tie.Need-same-length-4
 same-length-4 c = search needs
@@ -126,7 +140,7 @@ returns-4 : tie.Need-returns-4
 returns-4 c =
     let run = c .before .before in
     let else = run .before .before .before .before .before in
-    all-read (stateOf (start (else .before .before .before .before .before .before .before .before .before .before) .args .l)) (enter-block (else .before .before .before .before .before .before .before .before .before .before .read-field .result .value) (else .before .before .before .before .before .before .read-field2 .result .value) (else .before .before .read-field3 .result .value)) (speed-read else) (run .run-enter .ensures)
+    all-read (speed-read else) (run .run-enter .ensures)
 
 pub enter-block-spec : {M : Type 1} → statement M
 enter-block-spec =

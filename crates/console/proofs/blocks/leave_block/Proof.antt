@@ -5,7 +5,6 @@ use Prim.Native.Nat.{ℕ}
 use native.Mathlib.Omega.{arith}
 use borrow.Author.Tests.{not-true, not-false}
 use lib.ListN.{drop}
-use Rattle.lane.specs.State.{stateOf}
 use Rattle.lane.specs.Listing.{car-key}
 use Rattle.console.specs.Blocks.{Parsed, afterLine, field, bits16, leave-block, leaveLines, parsed}
 use Rattle.console.proofs.Lines.{Reads, first-read, field-read, field-most, field-missing, all-read, read-as}
@@ -40,7 +39,7 @@ returns c =
     let told = c .before .before in
     let then = told .before .before in
     let read = then .before .before in
-    read-as (stateOf (start read .args .l)) (field-missing _ _ _ (first read) (read .read-field .ensures) (not-true _ (then .if1 .taken))) (told .refused .ensures)
+    read-as (field-missing _ _ _ (first read) (read .read-field .ensures) (not-true _ (then .if1 .taken))) (told .refused .ensures)
 
 cast-run-leave : tie.Need-cast-run-leave
 cast-run-leave c =
@@ -58,8 +57,7 @@ returns-2 c =
     let run = c .before .before in
     let else = run .before .before .before in
     let read = else .before .before in
-    all-read (stateOf (start read .args .l)) (leave-block (read .read-field .result .value))
-    (field-read _ _ _ (first read) (read .read-field .ensures) (not-false _ (else .if1 .left))) (run .run-leave .ensures)
+    all-read (field-read _ _ _ (first read) (read .read-field .ensures) (not-false _ (else .if1 .left))) (run .run-leave .ensures)
 
 pub leave-block-spec : {M : Type 1} → statement M
 leave-block-spec =

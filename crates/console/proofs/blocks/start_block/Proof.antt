@@ -5,7 +5,6 @@ use Prim.Native.Nat.{ℕ}
 use native.Mathlib.Omega.{arith}
 use borrow.Author.Tests.{not-true, not-false}
 use lib.ListN.{drop}
-use Rattle.lane.specs.State.{stateOf}
 use Rattle.console.specs.Blocks.{Parsed, parsed, afterLine, field, bits32, bits64, surface-key, end-key, limit-key, cycle-key, start-block, startLines}
 use Rattle.console.proofs.Lines.{Reads, first-read, field-read, field-most, field-missing, all-read, read-as}
 use Rattle.console.proofs.blocks.start_block.Statement.{statement}
@@ -14,8 +13,33 @@ use Rattle.console.proofs.blocks.start_block.Tie as tie
 abbrev start : tie.After-read-field → tie.Start
 start c = c .before .before .before .before
 
-abbrev whole : tie.After-read-field → Parsed
-whole c = let a = start c .args in afterLine (drop (a .at) (a .input .now)) startLines
+abbrev Here : tie.After-read-field → ℕ → (List ℕ → Parsed) → Type 0
+Here c place rest = let a = start c .args in Reads (a .input .now) (a .at) place (afterLine (drop (a .at) (a .input .now)) startLines) rest
+
+-- each field read, and the one before it
+abbrev read1 : tie.Else1 → tie.After-read-field
+read1 c = c .before .before
+
+abbrev back2 : tie.Else2 → tie.Else1
+back2 c = c .before .before .before .before
+
+abbrev back3 : tie.Else3 → tie.Else2
+back3 c = c .before .before .before .before
+
+abbrev back4 : tie.Else4 → tie.Else3
+back4 c = c .before .before .before .before
+
+abbrev surface : tie.Else1 → ℕ
+surface c = c .before .before .read-field .result .value
+
+abbrev end : tie.Else2 → ℕ
+end c = c .before .before .read-field2 .result .value
+
+abbrev limit : tie.Else3 → ℕ
+limit c = c .before .before .read-field3 .result .value
+
+abbrev cycle : tie.Else4 → ℕ
+cycle c = c .before .before .read-field4 .result .value
 
 abbrev cycle-on : ℕ → ℕ → ℕ → ℕ → List ℕ → Parsed
 cycle-on surface end limit cycle t = parsed (start-block surface end limit cycle) 0
@@ -29,26 +53,21 @@ end-on surface end t = field limit-key bits32 t (limit-on surface end)
 abbrev surface-on : ℕ → List ℕ → Parsed
 surface-on surface t = field end-key bits32 t (end-on surface)
 
-surface-next : (c : tie.After-read-field) → let a = start c .args in
-    Reads (a .input .now) (a .at) (a .first) (whole c) (λ t. field surface-key bits32 t surface-on)
+surface-next : (c : tie.After-read-field) → Here c (start c .args .first) (λ t. field surface-key bits32 t surface-on)
 unfolding startLines
 surface-next c = let a = start c .args in first-read (a .input .now) (a .at) startLines (start c .pre .1)
 
-surface-read : (c : tie.Else1) → let a = start (c .before .before) .args in
-    Reads (a .input .now) (a .at) (c .before .before .read-field .result .next) (whole (c .before .before)) (surface-on (c .before .before .read-field .result .value))
-surface-read c = field-read _ _ _ (surface-next (c .before .before)) (c .before .before .read-field .ensures) (not-false _ (c .if1 .left))
+surface-read : (c : tie.Else1) → Here (read1 c) (c .before .before .read-field .result .next) (surface-on (surface c))
+surface-read c = field-read _ _ _ (surface-next (read1 c)) (c .before .before .read-field .ensures) (not-false _ (c .if1 .left))
 
-end-read : (c : tie.Else2) → let a = start (c .before .before .before .before .before .before) .args in
-    Reads (a .input .now) (a .at) (c .before .before .read-field2 .result .next) (whole (c .before .before .before .before .before .before)) (end-on (c .before .before .before .before .before .before .read-field .result .value) (c .before .before .read-field2 .result .value))
-end-read c = field-read _ _ _ (surface-read (c .before .before .before .before)) (c .before .before .read-field2 .ensures) (not-false _ (c .if2 .left))
+end-read : (c : tie.Else2) → Here (read1 (back2 c)) (c .before .before .read-field2 .result .next) (end-on (surface (back2 c)) (end c))
+end-read c = field-read _ _ _ (surface-read (back2 c)) (c .before .before .read-field2 .ensures) (not-false _ (c .if2 .left))
 
-limit-read : (c : tie.Else3) → let a = start (c .before .before .before .before .before .before .before .before .before .before) .args in
-    Reads (a .input .now) (a .at) (c .before .before .read-field3 .result .next) (whole (c .before .before .before .before .before .before .before .before .before .before)) (limit-on (c .before .before .before .before .before .before .before .before .before .before .read-field .result .value) (c .before .before .before .before .before .before .read-field2 .result .value) (c .before .before .read-field3 .result .value))
-limit-read c = field-read _ _ _ (end-read (c .before .before .before .before)) (c .before .before .read-field3 .ensures) (not-false _ (c .if3 .left))
+limit-read : (c : tie.Else3) → Here (read1 (back2 (back3 c))) (c .before .before .read-field3 .result .next) (limit-on (surface (back2 (back3 c))) (end (back3 c)) (limit c))
+limit-read c = field-read _ _ _ (end-read (back3 c)) (c .before .before .read-field3 .ensures) (not-false _ (c .if3 .left))
 
-cycle-read : (c : tie.Else4) → let a = start (c .before .before .before .before .before .before .before .before .before .before .before .before .before .before) .args in
-    Reads (a .input .now) (a .at) (c .before .before .read-field4 .result .next) (whole (c .before .before .before .before .before .before .before .before .before .before .before .before .before .before)) (cycle-on (c .before .before .before .before .before .before .before .before .before .before .before .before .before .before .read-field .result .value) (c .before .before .before .before .before .before .before .before .before .before .read-field2 .result .value) (c .before .before .before .before .before .before .read-field3 .result .value) (c .before .before .read-field4 .result .value))
-cycle-read c = field-read _ _ _ (limit-read (c .before .before .before .before)) (c .before .before .read-field4 .ensures) (not-false _ (c .if4 .left))
+cycle-read : (c : tie.Else4) → Here (read1 (back2 (back3 (back4 c)))) (c .before .before .read-field4 .result .next) (cycle-on (surface (back2 (back3 (back4 c)))) (end (back3 (back4 c))) (limit (back4 c)) (cycle c))
+cycle-read c = field-read _ _ _ (limit-read (back4 c)) (c .before .before .read-field4 .ensures) (not-false _ (c .if4 .left))
 
 slice-aggregate-read-field : tie.Need-slice-aggregate-read-field
 slice-aggregate-read-field c = search needs
@@ -67,7 +86,7 @@ returns c =
     let told = c .before .before in
     let then = told .before .before in
     let read = then .before .before in
-    read-as (stateOf (start read .args .l)) (field-missing _ _ _ (surface-next read) (read .read-field .ensures) (not-true _ (then .if1 .taken))) (told .refused .ensures)
+    read-as (field-missing _ _ _ (surface-next read) (read .read-field .ensures) (not-true _ (then .if1 .taken))) (told .refused .ensures)
 
 slice-aggregate-read-field-2 : tie.Need-slice-aggregate-read-field-2
 slice-aggregate-read-field-2 c = search needs
@@ -86,7 +105,7 @@ returns-2 c =
     let told = c .before .before in
     let then = told .before .before in
     let read = then .before .before in
-    read-as (stateOf (start (read .before .before .before .before) .args .l)) (field-missing _ _ _ (surface-read (read .before .before)) (read .read-field2 .ensures) (not-true _ (then .if2 .taken))) (told .refused2 .ensures)
+    read-as (field-missing _ _ _ (surface-read (read .before .before)) (read .read-field2 .ensures) (not-true _ (then .if2 .taken))) (told .refused2 .ensures)
 
 slice-aggregate-read-field-3 : tie.Need-slice-aggregate-read-field-3
 slice-aggregate-read-field-3 c = search needs
@@ -105,7 +124,7 @@ returns-3 c =
     let told = c .before .before in
     let then = told .before .before in
     let read = then .before .before in
-    read-as (stateOf (start (read .before .before .before .before .before .before .before .before) .args .l)) (field-missing _ _ _ (end-read (read .before .before)) (read .read-field3 .ensures) (not-true _ (then .if3 .taken))) (told .refused3 .ensures)
+    read-as (field-missing _ _ _ (end-read (read .before .before)) (read .read-field3 .ensures) (not-true _ (then .if3 .taken))) (told .refused3 .ensures)
 
 slice-aggregate-read-field-4 : tie.Need-slice-aggregate-read-field-4
 slice-aggregate-read-field-4 c = search needs
@@ -114,7 +133,7 @@ read-field-requires-4 : tie.Need-read-field-requires-4
 read-field-requires-4 c κs = search needs
 
 refused-requires-4 : tie.Need-refused-requires-4
-refused-requires-4 c κs = start (c .before .before .before .before .before .before .before .before .before .before .before .before .before .before .before) .pre .0
+refused-requires-4 c κs = start (read1 (back2 (back3 (c .before .before .before .before .before)))) .pre .0
 
 same-length-4 : tie.Need-same-length-4
 same-length-4 c = search needs
@@ -124,25 +143,25 @@ returns-4 c =
     let told = c .before .before in
     let then = told .before .before in
     let read = then .before .before in
-    read-as (stateOf (start (read .before .before .before .before .before .before .before .before .before .before .before .before) .args .l)) (field-missing _ _ _ (limit-read (read .before .before)) (read .read-field4 .ensures) (not-true _ (then .if4 .taken))) (told .refused4 .ensures)
+    read-as (field-missing _ _ _ (limit-read (read .before .before)) (read .read-field4 .ensures) (not-true _ (then .if4 .taken))) (told .refused4 .ensures)
 
 cast-run-start : tie.Need-cast-run-start
 cast-run-start c =
-    let else = c .before in
-    omega (arith, field-most _ _ _ (surface-next (else .before .before .before .before .before .before .before .before .before .before .before .before .before .before)) (else .before .before .before .before .before .before .before .before .before .before .before .before .before .before .read-field .ensures))
+    let read = read1 (back2 (back3 (back4 (c .before)))) in
+    omega (arith, field-most _ _ _ (surface-next read) (read .read-field .ensures))
 
 cast-run-start-2 : tie.Need-cast-run-start-2
 cast-run-start-2 c =
-    let else = c .before .before in
-    omega (arith, field-most _ _ _ (surface-read (else .before .before .before .before .before .before .before .before .before .before .before .before)) (else .before .before .before .before .before .before .before .before .before .before .read-field2 .ensures))
+    let read = back3 (back4 (c .before .before)) in
+    omega (arith, field-most _ _ _ (surface-read (back2 read)) (read .before .before .read-field2 .ensures))
 
 cast-run-start-3 : tie.Need-cast-run-start-3
 cast-run-start-3 c =
-    let else = c .before .before .before in
-    omega (arith, field-most _ _ _ (end-read (else .before .before .before .before .before .before .before .before)) (else .before .before .before .before .before .before .read-field3 .ensures))
+    let read = back4 (c .before .before .before) in
+    omega (arith, field-most _ _ _ (end-read (back3 read)) (read .before .before .read-field3 .ensures))
 
 run-start-requires : tie.Need-run-start-requires
-run-start-requires c κs = start (c .before .before .before .before .before .before .before .before .before .before .before .before .before .before .before .before .before .before) .pre .0
+run-start-requires c κs = start (read1 (back2 (back3 (back4 (c .before .before .before .before))))) .pre .0
 
 same-length-5 : tie.Need-same-length-5
 same-length-5 c = search needs
@@ -151,7 +170,7 @@ returns-5 : tie.Need-returns-5
 returns-5 c =
     let run = c .before .before in
     let else = run .before .before .before .before .before in
-    all-read (stateOf (start (else .before .before .before .before .before .before .before .before .before .before .before .before .before .before) .args .l)) (start-block (else .before .before .before .before .before .before .before .before .before .before .before .before .before .before .read-field .result .value) (else .before .before .before .before .before .before .before .before .before .before .read-field2 .result .value) (else .before .before .before .before .before .before .read-field3 .result .value) (else .before .before .read-field4 .result .value)) (cycle-read else) (run .run-start .ensures)
+    all-read (cycle-read else) (run .run-start .ensures)
 
 pub start-block-spec : {M : Type 1} → statement M
 start-block-spec =

@@ -58,8 +58,8 @@ slice-aggregate-line-value-2 c = search needs
 line-value-requires-2 : tie.Need-line-value-requires-2
 line-value-requires-2 c κs = search needs
 
-acceleration-wanted-requires : tie.Need-acceleration-wanted-requires
-acceleration-wanted-requires c κs = search needs
+float-wanted-requires : tie.Need-float-wanted-requires
+float-wanted-requires c κs = search needs
 
 returns-2 : tie.Need-returns-2
 unfolding wishIn
@@ -69,7 +69,7 @@ returns-2 c =
     let else = then .before .before .before in
     let has : hasLine want-accel (t (else .before)) ≡ true = sym (then .before .read-line2 .ensures .0) ∙ then .if2 .taken in
     rw (no-units else, has)
-    (c .acceleration-wanted .ensures ∙ ap (λ (d : List ℕ). floatWanted (λ x. Acceleration x) (bitsIn d)) (value .line-value2 .ensures))
+    (c .float-wanted .ensures ∙ ap (λ (d : List ℕ). floatWanted (λ x. Acceleration x) (bitsIn d)) (value .line-value2 .ensures))
 
 slice-aggregate-read-line-3 : tie.Need-slice-aggregate-read-line-3
 slice-aggregate-read-line-3 c = search needs
@@ -83,8 +83,8 @@ slice-aggregate-line-value-3 c = search needs
 line-value-requires-3 : tie.Need-line-value-requires-3
 line-value-requires-3 c κs = search needs
 
-speed-wanted-requires : tie.Need-speed-wanted-requires
-speed-wanted-requires c κs = search needs
+float-wanted-requires-2 : tie.Need-float-wanted-requires-2
+float-wanted-requires-2 c κs = search needs
 
 returns-3 : tie.Need-returns-3
 unfolding wishIn
@@ -95,7 +95,7 @@ returns-3 c =
     let first = else .before .before .before in
     let has : hasLine want-speed (t (first .before)) ≡ true = sym (then .before .read-line3 .ensures .0) ∙ then .if3 .taken in
     rw (no-units first, no-accel else, has)
-    (c .speed-wanted .ensures ∙ ap (λ (d : List ℕ). floatWanted (λ x. TargetSpeed x) (bitsIn d)) (value .line-value3 .ensures))
+    (c .float-wanted2 .ensures ∙ ap (λ (d : List ℕ). floatWanted (λ x. TargetSpeed x) (bitsIn d)) (value .line-value3 .ensures))
 
 slice-aggregate-whole-line : tie.Need-slice-aggregate-whole-line
 slice-aggregate-whole-line c = search needs
@@ -135,13 +135,13 @@ wish-in-spec =
     read-line-requires-2
     slice-aggregate-line-value-2
     line-value-requires-2
-    acceleration-wanted-requires
+    float-wanted-requires
     returns-2
     slice-aggregate-read-line-3
     read-line-requires-3
     slice-aggregate-line-value-3
     line-value-requires-3
-    speed-wanted-requires
+    float-wanted-requires-2
     returns-3
     slice-aggregate-whole-line
     whole-line-requires

@@ -8,11 +8,8 @@ use Rattle.console.proofs.Printing.{short-line, gives-put}
 use Rattle.console.proofs.runs.refused.Statement.{statement}
 use Rattle.console.proofs.runs.refused.Tie as tie
 
-slice-aggregate-put-decimal-line : tie.Need-slice-aggregate-put-decimal-line
-slice-aggregate-put-decimal-line c = search needs
-
-put-decimal-line-requires : tie.Need-put-decimal-line-requires
-put-decimal-line-requires c κs = search needs
+put-refusal-requires : tie.Need-put-refusal-requires
+put-refusal-requires c κs = search needs
 
 same-length : tie.Need-same-length
 same-length c = search needs
@@ -21,12 +18,9 @@ returns : tie.Need-returns
 unfolding refusal
 returns c =
     let put = c .before .before in
-    let s = put .before .before .before .before in
-    let a = s .args in
+    let a = put .before .before .before .args in
     let room : length (refusal (a .no)) ≤ length (a .out .now) = omega (arith, short-line no-key (a .no) (omega arith) (omega arith)) in
-    gives-put (a .l) (a .next) (a .stop) (refusal (a .no)) room (put .put-decimal-line .ensures)
+    gives-put (a .l) (a .next) (a .stop) (refusal (a .no)) room (put .put-refusal .ensures)
 
 pub refused-spec : {M : Type 1} → statement M
-refused-spec =
-    tie.close
-    (tie.spec slice-aggregate-put-decimal-line put-decimal-line-requires same-length returns)
+refused-spec = tie.close (tie.spec put-refusal-requires same-length returns)

@@ -1,6 +1,7 @@
 -- `console::runs::run_cycle` meets its contract: a refused cycle prints its number, else the lines `ok=cycle`, `over=` and `gone=`.
 use borrow.Author.Needs.{needs}
 use mathlib.Core.Path.{_≡_, refl, _∙_}
+use mathlib.Core.Bool.{false}
 use mathlib.Core.List.{List, _++_}
 use Prim.Native.Nat.{ℕ, _≤_, _<_}
 use native.Mathlib.Omega.{arith}
@@ -10,8 +11,9 @@ use Rattle.text.specs.Numbers.{decimal, hexadecimal}
 use Rattle.text.specs.Lines.{line}
 use Rattle.lane.specs.State.{State, stateOf}
 use Rattle.console.specs.Blocks.{Block, cycle-block}
-use Rattle.console.specs.Output.{ok-cycle, over-key, gone-key, answer, printed, stateAfter}
-use Rattle.console.proofs.Printing.{put-both, run-refused, run-accepted, cycled, length-cycled, cycle-printed, cycle-after}
+use Rattle.console.specs.Output.{ok-cycle, over-key, gone-key, blockNo, accepted, stateAfter}
+use Rattle.text.proofs.Laws.{put-both}
+use Rattle.console.proofs.Printing.{gives-put, run-refused, run-accepted, cycled, length-cycled, cycle-number, cycle-accepted, cycle-after}
 use Rattle.console.proofs.runs.run_cycle.Statement.{statement}
 use Rattle.console.proofs.runs.run_cycle.Tie as tie
 
@@ -32,11 +34,16 @@ counted s =
 gone-fits : (c : tie.After-cycle) → c .cycle .result .gone < 18446744073709551616
 gone-fits c = omega arith
 
-prints : (c : tie.After-cycle) → printed (state c) (block c) ≡ answer (c .cycle .result .no) (text c)
+numbered : (c : tie.After-cycle) → c .cycle .result .no ≡ blockNo (state c) (block c)
+numbered c =
+    let s = c .before .before in
+    c .cycle .ensures .0 ∙ cycle-number (state c) (s .args .count) (s .args .wishes) (counted s) (s .pre .1 .1)
+
+prints : (c : tie.After-cycle) → accepted (state c) (block c) ≡ text c
 prints c =
     let s = c .before .before in
-    cycle-printed (state c) (s .args .count) (s .args .wishes) (counted s) (s .pre .1 .1)
-    ∙ rw (← c .cycle .ensures .0, ← c .cycle .ensures .1 .0, ← c .cycle .ensures .1 .1 .1 .0) refl
+    cycle-accepted (state c) (s .args .count) (s .args .wishes) (counted s) (s .pre .1 .1)
+    ∙ rw (← c .cycle .ensures .1 .0, ← c .cycle .ensures .1 .1 .1 .0) refl
 
 after : (c : tie.After-cycle) → stateOf (c .cycle .result .lane) ≡ stateAfter (state c) (block c)
 after c =
@@ -57,8 +64,8 @@ returns c =
     let told = c .before .before in
     let then = told .before .before in
     let call = then .before .before .before in
-    run-refused (state call) (block call) (call .cycle .result .no) (text call) (prints call) (call .cycle .result .lane)
-    (after call) (then .if1 .taken) (told .refused .ensures)
+    run-refused (call .before .before .args .l) (block call) (numbered call) (after call) (call .cycle .ensures .1 .1 .1 .1 .1) (then .if1 .taken)
+    (told .refused .ensures)
 
 slice-aggregate-put-bytes : tie.Need-slice-aggregate-put-bytes
 slice-aggregate-put-bytes c = search needs
@@ -97,11 +104,11 @@ returns-2 c =
     let long = length-cycled (call .cycle .result .word) (call .cycle .result .gone) (gone-fits call) in
     let room : length (text call) ≤ length (a .out .now) = omega arith in
     let shorter : length (ok-cycle ++ over) ≤ length (a .out .now) = omega (arith, length-append (ok-cycle ++ over) gone) in
-    run-accepted (state call) (block call) (call .cycle .result .no) (text call) (prints call) (call .cycle .result .lane)
-    (after call) (else .if1 .left) (a .next) room
-    (put-both (ok-cycle ++ over) gone (a .out .now) room
-    (put-both ok-cycle over (a .out .now) shorter (first .put-bytes .ensures) (second .put-hexadecimal-line .ensures))
-    (third .put-decimal-line .ensures))
+    run-accepted (a .l) (block call) (numbered call) (after call) (call .cycle .ensures .1 .1 .1 .1 .1) (else .if1 .left) (text call) (prints call)
+    (gives-put (call .cycle .result .lane) (a .next) false (text call) room
+    (put-both 0 (ok-cycle ++ over) gone (a .out .now) (omega (arith, room))
+    (put-both 0 ok-cycle over (a .out .now) (omega (arith, shorter)) (first .put-bytes .ensures) (second .put-hexadecimal-line .ensures))
+    (third .put-decimal-line .ensures)))
 
 pub run-cycle-spec : {M : Type 1} → statement M
 run-cycle-spec =

@@ -1,6 +1,7 @@
 -- `console::runs::run_enter` meets its contract: a refused entry prints its number, else the lines `ok=enter` and `place=`.
 use borrow.Author.Needs.{needs}
-use mathlib.Core.Path.{_≡_, sym, ap₂}
+use mathlib.Core.Path.{_≡_, sym, ap}
+use mathlib.Core.Bool.{false}
 use mathlib.Core.List.{List, _++_}
 use Prim.Native.Nat.{ℕ, _≤_}
 use native.Mathlib.Omega.{arith}
@@ -9,8 +10,9 @@ use Rattle.text.specs.Numbers.{decimal}
 use Rattle.text.specs.Lines.{line}
 use Rattle.lane.specs.State.{stateOf}
 use Rattle.console.specs.Blocks.{Block, enter-block}
-use Rattle.console.specs.Output.{ok-enter, place-key, answer, printed, stateAfter}
-use Rattle.console.proofs.Printing.{put-both, short-line, run-refused, run-accepted}
+use Rattle.console.specs.Output.{ok-enter, place-key, blockNo, accepted, stateAfter}
+use Rattle.text.proofs.Laws.{put-both}
+use Rattle.console.proofs.Printing.{short-line, gives-put, run-refused, run-accepted}
 use Rattle.console.proofs.runs.run_enter.Statement.{statement}
 use Rattle.console.proofs.runs.run_enter.Tie as tie
 
@@ -20,10 +22,9 @@ block c = let a = c .before .before .args in enter-block (a .car) (a .at) (a .sp
 abbrev text : tie.After-enter → List ℕ
 text c = ok-enter ++ line place-key (decimal (c .enter .result .place))
 
-prints : (c : tie.After-enter) → printed (stateOf (c .before .before .args .l)) (block c) ≡ answer (c .enter .result .no) (text c)
-unfolding printed
-prints c =
-    ap₂ (λ (n p : ℕ). answer n (ok-enter ++ line place-key (decimal p))) (sym (c .enter .ensures .0)) (sym (c .enter .ensures .1 .0))
+prints : (c : tie.After-enter) → accepted (stateOf (c .before .before .args .l)) (block c) ≡ text c
+unfolding accepted
+prints c = ap (λ (p : ℕ). ok-enter ++ line place-key (decimal p)) (sym (c .enter .ensures .1 .0))
 
 enter-requires : tie.Need-enter-requires
 enter-requires c κs = search needs
@@ -35,13 +36,13 @@ same-length : tie.Need-same-length
 same-length c = search needs
 
 returns : tie.Need-returns
-unfolding stateAfter
+unfolding blockNo stateAfter
 returns c =
     let told = c .before .before in
     let then = told .before .before in
     let call = then .before .before .before in
-    run-refused (stateOf (call .before .before .args .l)) (block call) (call .enter .result .no) (text call) (prints call) (call .enter .result .lane)
-    (call .enter .ensures .1 .1 .0) (then .if1 .taken) (told .refused .ensures)
+    let e = call .enter .ensures in
+    run-refused (call .before .before .args .l) (block call) (e .0) (e .1 .1 .0) (e .1 .1 .1) (then .if1 .taken) (told .refused .ensures)
 
 slice-aggregate-put-bytes : tie.Need-slice-aggregate-put-bytes
 slice-aggregate-put-bytes c = search needs
@@ -59,7 +60,7 @@ same-length-2 : tie.Need-same-length-2
 same-length-2 c = search needs
 
 returns-2 : tie.Need-returns-2
-unfolding stateAfter
+unfolding blockNo stateAfter
 returns-2 c =
     let second = c .before .before in
     let first = second .before .before .before .before .before in
@@ -69,9 +70,10 @@ returns-2 c =
     let place = line place-key (decimal (call .enter .result .place)) in
     let room : length (text call) ≤ length (a .out .now) =
     omega (arith, length-append ok-enter place, short-line place-key (call .enter .result .place) (omega arith) (search needs)) in
-    run-accepted (stateOf (a .l)) (block call) (call .enter .result .no) (text call) (prints call) (call .enter .result .lane)
-    (call .enter .ensures .1 .1 .0) (else .if1 .left) (a .next) room
-    (put-both ok-enter place (a .out .now) room (first .put-bytes .ensures) (second .put-decimal-line .ensures))
+    let e = call .enter .ensures in
+    run-accepted (a .l) (block call) (e .0) (e .1 .1 .0) (e .1 .1 .1) (else .if1 .left) (text call) (prints call)
+    (gives-put (call .enter .result .lane) (a .next) false (text call) room
+    (put-both 0 ok-enter place (a .out .now) (omega (arith, room)) (first .put-bytes .ensures) (second .put-decimal-line .ensures)))
 
 pub run-enter-spec : {M : Type 1} → statement M
 run-enter-spec =

@@ -1,14 +1,14 @@
 -- `console::runs::run_show` meets its contract: a broken lane prints 21, else `ok=show` stands before the lane text.
 use borrow.Author.Needs.{needs}
-use mathlib.Core.Path.{_≡_, refl, ap, sym}
+use mathlib.Core.Path.{_≡_, refl}
+use mathlib.Core.Bool.{false}
 use mathlib.Core.List.{_++_}
-use Prim.Native.Nat.{ℕ}
 use native.Mathlib.Omega.{arith}
 use Rattle.lane.specs.State.{State, stateOf}
 use Rattle.lane.specs.Listing.{laneText}
 use Rattle.console.specs.Blocks.{show-block}
-use Rattle.console.specs.Output.{ok-show, answer, printed, stateAfter}
-use Rattle.console.proofs.Printing.{gives-into, run-refused, run-accepted}
+use Rattle.console.specs.Output.{ok-show, blockNo, accepted, stateAfter}
+use Rattle.console.proofs.Printing.{gives-put, gives-into, run-refused, run-accepted}
 use Rattle.console.proofs.Showing.{show-number, show-refused, fits, show-length, show-room, show-place, show-put}
 use Rattle.console.proofs.runs.run_show.Statement.{statement}
 use Rattle.console.proofs.runs.run_show.Tie as tie
@@ -19,12 +19,11 @@ start c = c .before .before .before
 abbrev state : tie.After-lane-text → State
 state c = stateOf (start c .args .l)
 
-prints : (c : tie.After-lane-text) → printed (state c) show-block ≡ answer (c .lane-text .result .no) (ok-show ++ laneText (state c))
-unfolding printed
-prints c =
+numbered : (c : tie.After-lane-text) → c .lane-text .result .no ≡ blockNo (state c) show-block
+unfolding blockNo
+numbered c =
     let e = c .lane-text .ensures in
-    ap (λ (n : ℕ). answer n (ok-show ++ laneText (state c)))
-    (sym (show-number (state c) (start c .args .out .now) (start c .pre) _ (e .0) (e .1 .1 .1)))
+    show-number (state c) (start c .args .out .now) (start c .pre) _ (e .0) (e .1 .1 .1)
 
 sub-lane-text : tie.Need-sub-lane-text
 sub-lane-text c = search needs
@@ -51,7 +50,7 @@ returns c =
     let then = told .before .before in
     let call = then .before .before .before .before in
     let s = start call in
-    run-refused (state call) show-block (call .lane-text .result .no) (ok-show ++ laneText (state call)) (prints call) (s .args .l) refl (then .if1 .taken)
+    run-refused (s .args .l) show-block (numbered call) refl (λ h. refl) (then .if1 .taken)
     (gives-into (show-refused (state call) (s .args .out .now) (s .pre) _ (call .lane-text .ensures .0) (then .if1 .taken) (call .lane-text .ensures .1 .1 .0)) (told .refused .ensures))
 
 slice-aggregate-put-bytes : tie.Need-slice-aggregate-put-bytes
@@ -78,16 +77,17 @@ same-length-2 : tie.Need-same-length-2
 same-length-2 c = search needs
 
 returns-2 : tie.Need-returns-2
-unfolding stateAfter
+unfolding accepted stateAfter
 returns-2 c =
     let put = c .before .before .before in
     let else = put .before .before .before in
     let call = else .before .before .before .before in
     let s = start call in
     let e = call .lane-text .ensures in
-    run-accepted (state call) show-block (call .lane-text .result .no) (ok-show ++ laneText (state call)) (prints call) (s .args .l) refl (else .if1 .left) (s .args .next)
-    (show-room (state call) (s .args .out .now) (s .pre) _ (e .0) (else .if1 .left))
-    (show-put (state call) (s .args .out .now) (s .pre) _ (e .0) (else .if1 .left) (e .1 .1 .0) (e .1 .0) (put .put-bytes .ensures))
+    let text = ok-show ++ laneText (state call) in
+    run-accepted (s .args .l) show-block (numbered call) refl (λ h. refl) (else .if1 .left) text refl
+    (gives-put (s .args .l) (s .args .next) false text (show-room (state call) (s .args .out .now) (s .pre) _ (e .0) (else .if1 .left))
+    (show-put (state call) (s .args .out .now) (s .pre) _ (e .0) (else .if1 .left) (e .1 .1 .0) (e .1 .0) (put .put-bytes .ensures)))
 
 pub run-show-spec : {M : Type 1} → statement M
 run-show-spec =

@@ -5,16 +5,17 @@ use Prim.Native.Nat.{_-_, _≤_}
 use native.Mathlib.Omega.{arith}
 use lib.ListN.{length}
 use Rattle.lane.specs.Calls.{none}
+use Rattle.lane.proofs.Lists.{length-mapped}
 use Rattle.lane.proofs.Texts.{Writing, length-next, writing-start, writing-next, writing-end}
 use Rattle.lane.proofs.listing.put_text.Statement.{statement}
 use Rattle.lane.proofs.listing.put_text.Tie as tie
 
 abbrev Inv-loop : tie.InvT-loop
-Inv-loop out₀ count carriers at₀ i₀ out at i =
-    (length carriers ≡ 64) × ((i ≤ count) × Writing carriers count at₀ out₀ out at i)
+Inv-loop out₀ l at₀ i₀ out at i =
+    (length (l .carriers) ≡ 64) × ((i ≤ l .count) × Writing (l .carriers) (l .count) at₀ out₀ out at i)
 
 abbrev μ-loop : tie.MeasureT-loop
-μ-loop out₀ count carriers at₀ i₀ out at i = count - i
+μ-loop out₀ l at₀ i₀ out at i = l .count - i
 
 abbrev start : tie.After-put-decimal-line Inv-loop μ-loop → tie.Start Inv-loop μ-loop
 start c = c .before .before .before .before
@@ -29,19 +30,19 @@ loop-holds : tie.Need-loop-holds Inv-loop μ-loop
 loop-holds c =
     let first = c .before .before in
     let a = start first .args in
-    (search needs, (search needs, writing-start (a .t2) (a .count) (a .out .now) (start first .pre .1) (first .put-decimal-line .ensures)))
+    (search (needs, length-mapped), (search needs, writing-start (a .t2 .carriers) (a .t2 .count) (a .out .now) (start first .pre .1) (first .put-decimal-line .ensures)))
 
 mul-c : tie.Need-mul-c Inv-loop μ-loop
 mul-c c = search needs
 
-array-copy-out-c : tie.Need-array-copy-out-c Inv-loop μ-loop
-array-copy-out-c c = search needs
+element-copy-out-c : tie.Need-element-copy-out-c Inv-loop μ-loop
+element-copy-out-c c = search needs
 
 put-carrier-requires : tie.Need-put-carrier-requires Inv-loop μ-loop
 put-carrier-requires c κs =
     let at = c .before .before .before in
     let a = start (at .before .before .before) .args in
-    omega (arith, at .loop .inv .1 .1 .room, length-next none (a .t2) (at .loop .i) (a .count) (omega arith) (omega arith))
+    omega (arith, at .loop .inv .1 .1 .room, length-next none (a .t2 .carriers) (at .loop .i) (a .t2 .count) (omega arith) (omega arith))
 
 add-i : tie.Need-add-i Inv-loop μ-loop
 add-i c = search needs
@@ -68,7 +69,7 @@ returns c =
     let at = c .before in
     let first = at .before .before .before in
     let a = start first .args in
-    writing-end (a .t2) (a .count) (a .out .now) (start first .pre .1) (first .put-decimal-line .ensures) (at .loop .inv .1 .1) (c .loop-test .left)
+    writing-end (a .t2 .carriers) (a .t2 .count) (a .out .now) (start first .pre .1) (first .put-decimal-line .ensures) (at .loop .inv .1 .1) (c .loop-test .left)
 
 pub put-text-spec : {M : Type 1} → statement M
 put-text-spec =
@@ -80,7 +81,7 @@ put-text-spec =
     put-decimal-line-requires
     loop-holds
     mul-c
-    array-copy-out-c
+    element-copy-out-c
     put-carrier-requires
     add-i
     loop-less

@@ -8,34 +8,35 @@ use lib.Seq.{slice}
 use Rattle.text.proofs.Laws.{length-line}
 use Rattle.lane.specs.Calls.{none}
 use Rattle.lane.specs.Listing.{carriersText}
+use Rattle.lane.proofs.Lists.{length-mapped}
 use Rattle.lane.proofs.Texts.{digits-16, carriers-past, length-next}
 use Rattle.lane.proofs.listing.text_length.Statement.{statement}
 use Rattle.lane.proofs.listing.text_length.Tie as tie
 
 abbrev Inv-loop : tie.InvT-loop
-Inv-loop count carriers n₀ i₀ n i =
-    (length carriers ≡ 64)
-    × ((i ≤ count)
+Inv-loop l n₀ i₀ n i =
+    (length (l .carriers) ≡ 64)
+    × ((i ≤ l .count)
     × ((n ≤ 11 + 41 * i)
-    × (n + length (carriersText (slice i count carriers)) ≡ n₀ + length (carriersText (take count carriers)))))
+    × (n + length (carriersText (slice i (l .count) (l .carriers))) ≡ n₀ + length (carriersText (take (l .count) (l .carriers))))))
 
 abbrev μ-loop : tie.MeasureT-loop
-μ-loop count carriers n₀ i₀ n i = count - i
+μ-loop l n₀ i₀ n i = l .count - i
 
 decimal-length-requires : tie.Need-decimal-length-requires Inv-loop μ-loop
 decimal-length-requires c κs = search needs
 
 add-n : tie.Need-add-n Inv-loop μ-loop
-add-n c = omega (arith, digits-16 (c .before .args .count) (omega arith))
+add-n c = omega (arith, digits-16 (c .before .args .t1 .count) (omega arith))
 
 loop-holds : tie.Need-loop-holds Inv-loop μ-loop
-loop-holds c = (search needs, (omega arith, (omega (arith, digits-16 (c .before .args .count) (omega arith)), refl)))
+loop-holds c = (search (needs, length-mapped), (omega arith, (omega (arith, digits-16 (c .before .args .t1 .count) (omega arith)), refl)))
 
 mul-c : tie.Need-mul-c Inv-loop μ-loop
 mul-c c = search needs
 
-array-copy-out-c : tie.Need-array-copy-out-c Inv-loop μ-loop
-array-copy-out-c c = search needs
+element-copy-out-c : tie.Need-element-copy-out-c Inv-loop μ-loop
+element-copy-out-c c = search needs
 
 carrier-length-requires : tie.Need-carrier-length-requires Inv-loop μ-loop
 carrier-length-requires c κs = search needs
@@ -53,13 +54,13 @@ loop-again : tie.Need-loop-again Inv-loop μ-loop
 loop-again c =
     let at = c .before .before .before in
     let a = at .before .before .args in
-    let next = length-next none (a .t1) (at .loop .i) (a .count) (omega arith) (omega arith) in
+    let next = length-next none (a .t1 .carriers) (at .loop .i) (a .t1 .count) (omega arith) (omega arith) in
     (search needs, (omega arith, (omega arith, omega arith)))
 
 returns : tie.Need-returns Inv-loop μ-loop
 returns c =
     let a = c .before .before .before .args in (
-      rw (length-append, length-line) (omega (arith, ap length (carriers-past (a .t1) (c .before .loop .i) (a .count) (omega arith)))),
+      rw (length-append, length-line) (omega (arith, ap length (carriers-past (a .t1 .carriers) (c .before .loop .i) (a .t1 .count) (omega arith)))),
       omega arith,
     )
 
@@ -73,7 +74,7 @@ text-length-spec =
     add-n
     loop-holds
     mul-c
-    array-copy-out-c
+    element-copy-out-c
     carrier-length-requires
     add-n-2
     add-i

@@ -1,4 +1,4 @@
--- The rules are checked one after the other, the three of a carrier by itself in one pass, and the first that is broken decides.
+-- The bounds are checked one after the other, then the carriers in one pass, and the first rule that is broken decides.
 use mathlib.Core.Path.{_≡_, refl, sym, _∙_}
 use mathlib.Core.Bool.{not, _||_}
 use borrow.Author.Needs.{needs}
@@ -56,41 +56,15 @@ returns-4 c =
 returns-5 : tie.Need-returns-5
 returns-5 c = rw (in-bounds (c .before), lt-ltb _ _ (c .if5 .taken)) refl
 
-any-unlawful-requires : tie.Need-any-unlawful-requires
-any-unlawful-requires c κs = search needs
-
-returns-6 : tie.Need-returns-6
-returns-6 c = rw (in-bounds (c .before .before .before .before), le-ltb _ _ (c .before .before .before .if5 .left), sym (c .before .any-unlawful .ensures) ∙ c .if6 .taken) refl
-
-any-repeated-requires : tie.Need-any-repeated-requires
-any-repeated-requires c κs = search needs
-
-returns-7 : tie.Need-returns-7
-returns-7 c =
-    rw (
-      in-bounds (c .before .before .before .before .before .before),
-      le-ltb _ _ (c .before .before .before .before .before .if5 .left),
-      sym (c .before .before .before .any-unlawful .ensures) ∙ c .before .before .if6 .left,
-      sym (c .before .any-repeated .ensures) ∙ c .if7 .taken,
-    )
-    refl
-
 row-requires : tie.Need-row-requires
 row-requires c κs = search needs
 
-all-safe-requires : tie.Need-all-safe-requires
-all-safe-requires c κs = (search needs, row-brakes _ _ (c .row .ensures) (c .before .before .before .before .before .before .before .before .before .before .before .if2 .left))
+any-breaks-requires : tie.Need-any-breaks-requires
+any-breaks-requires c κs = (search needs, row-brakes _ _ (c .row .ensures) (c .before .before .before .before .before .before .before .if2 .left))
 
-returns-8 : tie.Need-returns-8
-returns-8 c =
-    rw (
-      in-bounds (c .before .before .before .before .before .before .before .before),
-      le-ltb _ _ (c .before .before .before .before .before .before .before .if5 .left),
-      sym (c .before .before .before .before .before .any-unlawful .ensures) ∙ c .before .before .before .before .if6 .left,
-      sym (c .before .before .before .any-repeated .ensures) ∙ c .before .before .if7 .left,
-      ← c .before .row .ensures,
-      ← c .all-safe .ensures,
-    )
+returns-6 : tie.Need-returns-6
+returns-6 c =
+    rw (in-bounds (c .before .before .before .before), le-ltb _ _ (c .before .before .before .if5 .left), ← c .before .row .ensures, ← c .any-breaks .ensures)
     refl
 
 pub breaks-rule-spec : {M : Type 1} → statement M
@@ -104,10 +78,6 @@ breaks-rule-spec =
     bad-limit-requires
     returns-4
     returns-5
-    any-unlawful-requires
-    returns-6
-    any-repeated-requires
-    returns-7
     row-requires
-    all-safe-requires
-    returns-8)
+    any-breaks-requires
+    returns-6)

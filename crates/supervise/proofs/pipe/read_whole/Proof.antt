@@ -25,14 +25,20 @@ returns c = omega arith
 read-once-requires : tie.Need-read-once-requires Inv-loop μ-loop
 read-once-requires c κs = search needs
 
-add-at : tie.Need-add-at Inv-loop μ-loop
-add-at c = omega arith
-
 same-length-2 : tie.Need-same-length-2 Inv-loop μ-loop
 same-length-2 c = omega arith
 
 returns-2 : tie.Need-returns-2 Inv-loop μ-loop
 returns-2 c = omega arith
+
+same-length-3 : tie.Need-same-length-3 Inv-loop μ-loop
+same-length-3 c = omega arith
+
+returns-3 : tie.Need-returns-3 Inv-loop μ-loop
+returns-3 c = omega arith
+
+add-at : tie.Need-add-at Inv-loop μ-loop
+add-at c = omega arith
 
 sub-turns : tie.Need-sub-turns Inv-loop μ-loop
 sub-turns c = search needs
@@ -43,11 +49,11 @@ loop-less c = search needs
 loop-again : tie.Need-loop-again Inv-loop μ-loop
 loop-again c = omega arith
 
-same-length-3 : tie.Need-same-length-3 Inv-loop μ-loop
-same-length-3 c = search needs
+same-length-4 : tie.Need-same-length-4 Inv-loop μ-loop
+same-length-4 c = search needs
 
-returns-3 : tie.Need-returns-3 Inv-loop μ-loop
-returns-3 c = omega arith
+returns-4 : tie.Need-returns-4 Inv-loop μ-loop
+returns-4 c = omega arith
 
 pub read-whole-spec : {M : Type 1} → statement M
 read-whole-spec =
@@ -59,11 +65,13 @@ read-whole-spec =
     same-length
     returns
     read-once-requires
-    add-at
     same-length-2
     returns-2
+    same-length-3
+    returns-3
+    add-at
     sub-turns
     loop-less
     loop-again
-    same-length-3
-    returns-3)
+    same-length-4
+    returns-4)

@@ -21,11 +21,11 @@ returns c = search needs
 write-once-requires : tie.Need-write-once-requires Inv-loop μ-loop
 write-once-requires c κs = search needs
 
-add-at : tie.Need-add-at Inv-loop μ-loop
-add-at c = omega arith
-
 returns-2 : tie.Need-returns-2 Inv-loop μ-loop
 returns-2 c = search needs
+
+add-at : tie.Need-add-at Inv-loop μ-loop
+add-at c = omega arith
 
 sub-turns : tie.Need-sub-turns Inv-loop μ-loop
 sub-turns c = search needs
@@ -48,8 +48,8 @@ write-whole-spec =
     loop-holds
     returns
     write-once-requires
-    add-at
     returns-2
+    add-at
     sub-turns
     loop-less
     loop-again

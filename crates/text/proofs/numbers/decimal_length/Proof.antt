@@ -26,10 +26,10 @@ loop-less : tie.Need-loop-less Inv-loop μ-loop
 loop-less c = omega arith
 
 loop-again : tie.Need-loop-again Inv-loop μ-loop
-loop-again c = omega (arith, longer (c .before .loop .rest) (c .loop-test .taken))
+loop-again c = omega (arith, longer (c .before .loop .rest) (omega arith))
 
 returns : tie.Need-returns Inv-loop μ-loop
-returns c = omega (arith, ap length (decimal-small (c .before .loop .rest) (c .loop-test .left)))
+returns c = omega (arith, ap length (decimal-small (c .before .loop .rest) (omega arith)))
 
 pub decimal-length-spec : {M : Type 1} → statement M
 decimal-length-spec =

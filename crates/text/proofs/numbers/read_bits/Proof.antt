@@ -8,7 +8,7 @@ use lib.ListN.{length}
 use borrow.Author.Tests.{ne-eqb}
 use Rattle.text.specs.Fields.{bitsIn}
 use Rattle.text.specs.declared.numbers.Number.the-variants.{Malformed}
-use Rattle.text.proofs.Reading.{bits-within}
+use Rattle.text.proofs.Reading.{withinIn, bits-within}
 use Rattle.text.proofs.numbers.read_bits.Statement.{statement}
 use Rattle.text.proofs.numbers.read_bits.Tie as tie
 
@@ -23,6 +23,7 @@ read-digits-requires : tie.Need-read-digits-requires
 read-digits-requires c κs = search needs
 
 returns-2 : tie.Need-returns-2
+unfolding withinIn
 returns-2 c = c .read-digits .ensures ∙ bits-within _ (omega arith)
 
 pub read-bits-spec : {M : Type 1} → statement M

@@ -7,9 +7,9 @@ use native.Mathlib.Numerals.{add-one}
 use native.Mathlib.Omega.{arith}
 use lib.ListN.{length, getD, drop, drop-of-length-le}
 use lib.Seq.{drop-cons}
-use Rattle.text.specs.Fields.{digitIn, withinIn}
+use Rattle.text.specs.Fields.{digitIn}
 use Rattle.text.specs.declared.numbers.Number.the-variants.{Is, Malformed}
-use Rattle.text.proofs.Reading.{within-end, within-over, within-next, within-none}
+use Rattle.text.proofs.Reading.{withinIn, within-end, within-over, within-next, within-none}
 use Rattle.text.proofs.numbers.read_digits.Statement.{statement}
 use Rattle.text.proofs.numbers.read_digits.Tie as tie
 
@@ -55,11 +55,13 @@ digit-in-requires : tie.Need-digit-in-requires Inv-loop μ-loop
 digit-in-requires c κs = tt
 
 returns : tie.Need-returns Inv-loop μ-loop
+unfolding withinIn
 returns c =
     let now = c .before .before .before .before .loop in
     sym (none _ _ (now .value) _ (now .i) _ (omega arith) (c .before .digit-in .ensures) (omega arith)) ∙ now .inv .2
 
 returns-2 : tie.Need-returns-2 Inv-loop μ-loop
+unfolding withinIn
 returns-2 c =
     let now = c .before .before .before .before .before .loop in
     sym (over _ _ (now .value) _ (now .i) _ (omega arith) (c .before .before .digit-in .ensures) (omega arith) (omega arith)) ∙ now .inv .2
@@ -68,6 +70,7 @@ div-if3 : tie.Need-div-if3 Inv-loop μ-loop
 div-if3 c = omega arith
 
 returns-3 : tie.Need-returns-3 Inv-loop μ-loop
+unfolding withinIn
 returns-3 c =
     let now = c .before .before .before .before .before .before .loop in
     let base = c .before .before .before .before .before .before .before .before .pre .0 in
@@ -95,6 +98,7 @@ loop-again c =
     (omega arith, room c, next _ _ (now .value) _ (now .i) _ (omega arith) digit (omega arith) ∙ now .inv .2)
 
 returns-4 : tie.Need-returns-4 Inv-loop μ-loop
+unfolding withinIn
 returns-4 c =
     let now = c .before .loop in
     sym (done _ _ _ _ (now .i) (omega arith) (now .inv .1)) ∙ now .inv .2

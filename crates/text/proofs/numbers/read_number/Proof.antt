@@ -3,7 +3,7 @@ use borrow.Author.Needs.{needs}
 use mathlib.Core.Path.{sym, _∙_}
 use mathlib.Core.Logic.{⊎-elim}
 use native.Mathlib.Omega.{arith}
-use Rattle.text.proofs.Reading.{number-within, number-empty, number-leading}
+use Rattle.text.proofs.Reading.{withinIn, number-within, number-empty, number-leading}
 use Rattle.text.proofs.numbers.read_number.Statement.{statement}
 use Rattle.text.proofs.numbers.read_number.Tie as tie
 
@@ -20,6 +20,7 @@ read-digits-requires : tie.Need-read-digits-requires
 read-digits-requires c κs = search needs
 
 returns-3 : tie.Need-returns-3
+unfolding withinIn
 returns-3 c =
     c .read-digits .ensures
     ∙ number-within _ _ (omega arith) (λ h z. ⊎-elim (λ w. w .2 .left z) (λ w. omega arith) (c .before .if2 .came))

@@ -1,0 +1,67 @@
+-- What a reader may take from `history`: at each call of the list, and in plain words; and that a lane once started never breaks a rule.
+use mathlib.Core.Path.{_≡_, refl, sym, subst}
+use mathlib.Core.Bool.{Bool, true, false, _||_, true≢false}
+use mathlib.Core.List.{List, [], _∷_, _++_}
+use Prim.Native.Nat.{ℕ, _≤_, _<_}
+use native.Mathlib.Omega.{arith}
+use borrow.Author.Tests.{ltb-true, ltb-false}
+use lib.Dec.{ltb}
+use lib.ListN.{length}
+use lib.Signed.{<ℤ-irrefl}
+use Rattle.wish.specs.declared.Wish.{Wish}
+use Rattle.lane.specs.declared.Lane.{Lane}
+use Rattle.lane.specs.State.{stateOf}
+use Rattle.lane.specs.Book.{cycle-call, Seen, Book, booked}
+use Rattle.lane.specs.Claims.{carrierAt, placeAt, Claims}
+use Rattle.lane.specs.History.{laneAfter, numberOf, wordIn, Entry, seen, Throughout, startsLane, NeverBroken}
+use Rattle.lane.proofs.Keeps.{Kept}
+use Rattle.lane.proofs.Lasting.{goes-on, not-broken}
+use Rattle.lane.proofs.History.{Ran, none-yet, then, answered}
+
+-- the lane and the book after the first calls
+abbrev pub laneOn : Lane → List Entry → Lane
+laneOn l [] = l
+laneOn l (e ∷ es) = laneOn (laneAfter (e .call) l (e .reply)) es
+
+abbrev pub bookOn : Book → List Entry → Book
+bookOn b [] = b
+bookOn b (e ∷ es) = bookOn (booked (seen e) b) es
+
+-- what is claimed throughout is claimed of every call of the list, at the lane and the book that the calls before it have left
+pub at-each-call : (l : Lane) (b : Book) (before : List Entry) (e : Entry) (later : List Entry) → Throughout l b (before ++ (e ∷ later))
+    → Claims (laneAfter (e .call) (laneOn l before) (e .reply)) (seen e) (bookOn b before)
+at-each-call l b [] e later t = t .0
+at-each-call l b (x ∷ before) e later t = at-each-call (laneAfter (x .call) l (x .reply)) (booked (seen x) b) before e later (t .1)
+
+-- after a call no two carriers of the book are level
+pub apart-after : (after : Lane) (s : Seen) (b : Book) → Claims after s b → (i j : ℕ) → ¬ (i ≡ j)
+    → i < length (booked s b .carriers) → j < length (booked s b .carriers) → ¬ (carrierAt (booked s b) i .position ≡ carrierAt (booked s b) j .position)
+apart-after after s b c i j d p q e = by-order (ltb i j) refl
+  where
+    by-order : (t : Bool) → ltb i j ≡ t → ⊥
+    by-order true h = omega (arith, e, c .order i j (ltb-true i j h) q)
+    by-order false h = omega (arith, e, c .order j i (omega (arith, d, ltb-false i j h)) p)
+
+-- and at no fraction of a cycle run are two level
+pub apart-within : (after : Lane) (count word : ℕ) (ws : List Wish) (b : Book)
+    → Claims after (record { call = cycle-call count ws; refused = false; word = word }) b
+    → (n k i j : ℕ) → 1 ≤ n → k ≤ n → ¬ (i ≡ j) → i < length (b .carriers) → j < length (b .carriers) → ¬ (placeAt b word ws n k i ≡ placeAt b word ws n k j)
+apart-within after count word ws b c n k i j hn hk d p q e = by-order (ltb i j) refl
+  where
+    by-order : (t : Bool) → ltb i j ≡ t → ⊥
+    by-order true h = <ℤ-irrefl (rw e at (c .cycle-run .0 n k i j hn hk (ltb-true i j h) q))
+    by-order false h = <ℤ-irrefl (rw (sym e) at (c .cycle-run .0 n k j i hn hk (omega (arith, d, ltb-false i j h)) p))
+
+lasting : {l d : Lane} {es : List Entry} (started : Bool) → (started ≡ true → Kept (stateOf l)) → Ran l es d → NeverBroken started es
+lasting started h none-yet = tt
+lasting {l} started h (then {e = e} d r) =
+    let a = answered (e .call) l (e .reply) d in
+    let n = numberOf (e .call) (e .reply) in
+    let word = wordIn (e .call) (e .reply) in (
+      λ q. not-broken (e .call) (stateOf l) n word (a .0) (h q),
+      lasting (started || startsLane e) (λ q. subst Kept (sym (a .1)) (goes-on (e .call) (stateOf l) n word (a .0) started h q)) r,
+    )
+
+-- from any lane at all: once a start was accepted no call gives 21
+pub never-broken : (l : Lane) (es : List Entry) (d : Lane) → Ran l es d → NeverBroken false es
+never-broken l es d r = lasting false (λ q. absurd (true≢false (sym q))) r
