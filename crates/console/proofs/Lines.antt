@@ -1,6 +1,6 @@
 -- A block's lines, read one after the other: where the reading has come to, and what is still to be read.
 use mathlib.Core.Path.{_≡_, refl, sym, ap, _∙_}
-use mathlib.Core.Bool.{Bool, true, false, cond}
+use mathlib.Core.Bool.{Bool, true, false, true≢false, _&&_, cond}
 use mathlib.Core.List.{List}
 use Prim.Native.Nat.{ℕ, suc, _+_, _-_, _≤_}
 use native.Mathlib.Nat.{add-assoc}
@@ -21,27 +21,39 @@ past-past : (j k : ℕ) (p : Parsed) → past j (past k p) ≡ past (j + k) p
 past-past j k (parsed b used) = ap (parsed b) (sym (add-assoc j k used))
 past-past j k malformed = refl
 
+-- a number that is read is in its field's range
+pub field-most : (key : List ℕ) (most : ℕ) (t : List ℕ) {value : ℕ} → value ≡ valueIn (fieldIn key most t) → value ≤ most
+field-most key most t e = omega (arith, field-at-most key most t, e)
+
 -- `whole` began at `at`; what `rest` reads from the place on is still to come
 pub record Reads (input : List ℕ) (at place : ℕ) (whole : Parsed) (rest : List ℕ → Parsed) : Type 0 where
   pub used : ℕ
   pub place-is : place ≡ at + used
   pub whole-is : whole ≡ past used (rest (drop place input))
 
+-- the lines so far are all there, or one is missing and there is no block
+pub record Reached (input : List ℕ) (at place : ℕ) (whole : Parsed) (ok : Bool) (rest : List ℕ → Parsed) : Type 0 where
+  pub there : ok ≡ true → Reads input at place whole rest
+  pub missing : ok ≡ false → whole ≡ malformed
+
 -- the block's first line is read
 pub first-read : (input : List ℕ) (at : ℕ) (rest : List ℕ → Parsed) {first : ℕ} → first ≡ at + suc (lineLength (drop at input))
-    → Reads input at first (afterLine (drop at input) rest) rest
+    → Reached input at first (afterLine (drop at input) rest) true rest
 unfolding afterLine
 first-read input at rest e =
     let k = suc (lineLength (drop at input)) in
-    record { used = k; place-is = e; whole-is = rw (drop-drop k at input, ← e) refl }
+    record {
+      there = λ t. record { used = k; place-is = e; whole-is = rw (drop-drop k at input, ← e) refl };
+      missing = λ f. absurd (true≢false f);
+    }
 
-module _ {input : List ℕ} {at place : ℕ} {whole : Parsed} where
+module _ {input : List ℕ} {at : ℕ} {whole : Parsed} where
   -- a line is read
-  pub line-read : {rest : List ℕ → Parsed} (next : List ℕ → Parsed) {after : ℕ} → Reads input at place whole rest
+  pub line-read : {place : ℕ} {rest : List ℕ → Parsed} (next : List ℕ → Parsed) {after : ℕ} → Reads input at place whole rest
       → rest (drop place input) ≡ afterLine (drop place input) next → after ≡ place + suc (lineLength (drop place input))
       → Reads input at after whole next
   unfolding afterLine
-  line-read {rest} next {after} r e f =
+  line-read {place} {rest} next {after} r e f =
       let k = suc (lineLength (drop place input)) in
       record {
         used = r .used + k;
@@ -52,32 +64,33 @@ module _ {input : List ℕ} {at place : ℕ} {whole : Parsed} where
       }
 
   -- nothing can be read
-  pub none-read : {rest : List ℕ → Parsed} → Reads input at place whole rest → rest (drop place input) ≡ malformed → whole ≡ malformed
+  pub none-read : {place : ℕ} {rest : List ℕ → Parsed} → Reads input at place whole rest → rest (drop place input) ≡ malformed → whole ≡ malformed
   none-read r e = r .whole-is ∙ ap (past (r .used)) e
 
-  -- a line of a key with a number, as `read_field` tells of it
-  module _ (key : List ℕ) (most : ℕ) (next : ℕ → List ℕ → Parsed) (r : Reads input at place whole (λ t. field key most t next))
-      {ok : Bool} {value after : ℕ}
+  -- a line of a key with a number, as `read_field` tells of it, after the lines so far
+  module _ (key : List ℕ) (most : ℕ) (next : ℕ → List ℕ → Parsed) {place : ℕ} {ok : Bool} {value after : ℕ}
       (told : (ok ≡ isNumber (fieldIn key most (drop place input)))
       × ((value ≡ valueIn (fieldIn key most (drop place input)))
       × (after ≡ cond (isNumber (fieldIn key most (drop place input))) (place + suc (lineLength (drop place input))) place))) where
-    pub field-read : ok ≡ true → Reads input at after whole (next value)
+    read : Reads input at place whole (λ t. field key most t next) → ok ≡ true → Reads input at after whole (next value)
     unfolding field
-    field-read e =
+    read r e =
         let i : isNumber (fieldIn key most (drop place input)) ≡ true = sym (told .0) ∙ e in
         line-read (next value) r (rw (i, told .1 .0) refl) (rw i at (told .1 .1))
 
-    pub field-most : value ≤ most
-    field-most = omega (arith, field-at-most key most (drop place input), told .1 .0)
-
-    pub field-missing : ok ≡ false → whole ≡ malformed
+    unread : Reads input at place whole (λ t. field key most t next) → ok ≡ false → whole ≡ malformed
     unfolding field
-    field-missing e =
+    unread r e =
         let i : isNumber (fieldIn key most (drop place input)) ≡ false = sym (told .0) ∙ e in
         none-read r (rw i refl)
 
+    pub field-read : {so-far : Bool} → Reached input at place whole so-far (λ t. field key most t next)
+        → Reached input at after whole (so-far && ok) (next value)
+    field-read {so-far = true} r = record { there = read (r .there refl); missing = unread (r .there refl) }
+    field-read {so-far = false} r = record { there = λ t. absurd (true≢false (sym t)); missing = r .missing }
+
   -- the block is read whole, and then run
-  pub all-read : {b : Block} → Reads input at place whole (λ t. parsed b 0) → {l : Lane} {buffer out : List ℕ} {r : Stepped}
+  pub all-read : {place : ℕ} {b : Block} → Reads input at place whole (λ t. parsed b 0) → {l : Lane} {buffer out : List ℕ} {r : Stepped}
       → Gives l (ran (stateOf l) (parsed b 0)) place buffer r out → Gives l (ran (stateOf l) whole) at buffer r out
   all-read k g =
       rw (k .whole-is)

@@ -24,26 +24,18 @@ const BITS32: u64 = 0xFFFF_FFFF;
 
 const BITS64: u64 = 0xFFFF_FFFF_FFFF_FFFF;
 
-// The block at `at`, of which the lines from `first` on are still to be read: so for each kind.
+// The block at `at`, of which the lines from `first` on are still to be read: so for each kind. A field that is missing leaves the place where
+// it is, so a block's fields are all read and then looked at together.
 fn start_block(l: Lane, input: &[u8], at: usize, first: usize, out: &mut [u8]) -> Stepped
     requires { ⌜ 4096 ≤ length (now out) ⌝ }
     requires { ⌜ first ≡ at + suc (lineLength (drop at (now input))) ⌝ }
     ensures { λ r. ⌜ Gives l (ran (stateOf l) (afterLine (drop at (now (input .entry))) startLines)) at (now (out .entry)) r (now (out .exit)) ⌝ }
 {
     let surface = text::read_field(input, first, b"surface=", BITS32);
-    if !surface.ok {
-        return refused(l, at, 8, true, out);
-    }
     let end = text::read_field(input, surface.next, b"end=", BITS32);
-    if !end.ok {
-        return refused(l, at, 8, true, out);
-    }
     let limit = text::read_field(input, end.next, b"limit=", BITS32);
-    if !limit.ok {
-        return refused(l, at, 8, true, out);
-    }
     let cycle = text::read_field(input, limit.next, b"cycle=", BITS64);
-    if !cycle.ok {
+    if !(surface.ok & end.ok & limit.ok & cycle.ok) {
         return refused(l, at, 8, true, out);
     }
     run_start(
@@ -63,15 +55,9 @@ fn enter_block(l: Lane, input: &[u8], at: usize, first: usize, out: &mut [u8]) -
     ensures { λ r. ⌜ Gives l (ran (stateOf l) (afterLine (drop at (now (input .entry))) enterLines)) at (now (out .entry)) r (now (out .exit)) ⌝ }
 {
     let car = text::read_field(input, first, b"car=", BITS16);
-    if !car.ok {
-        return refused(l, at, 8, true, out);
-    }
     let position = text::read_field(input, car.next, b"at=", BITS32);
-    if !position.ok {
-        return refused(l, at, 8, true, out);
-    }
     let speed = text::read_field(input, position.next, b"speed=", BITS32);
-    if !speed.ok {
+    if !(car.ok & position.ok & speed.ok) {
         return refused(l, at, 8, true, out);
     }
     run_enter(

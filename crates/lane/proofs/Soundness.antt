@@ -81,12 +81,10 @@ sound-holds s h =
     )
     refl
 
--- the rules as the code checks them: the three of a carrier by itself are one test
+-- the rules as the code checks them: the bounds in one go, and the three of a carrier by itself as one test
 pub broken-checks : (s : State)
     → broken s
-    ≡ not (s .started)
-    || (ltb 7 (s .surface) || (badEnd (s .end) || badLimit (s .limit)))
-    || ltb 64 (s .count)
+    ≡ not (s .started) || ltb 7 (s .surface) || badEnd (s .end) || badLimit (s .limit) || ltb 64 (s .count)
     || anyOf (λ c. numbered 0 c || ltb (s .limit) (c .speed) || leb (s .end) (c .position)) (s .carriers)
     || repeats (s .carriers)
     || not (laneSafe (rowOf (s .surface)) (s .carriers))
@@ -98,13 +96,22 @@ broken-checks s =
     )
     (ap (λ (t : Bool). t || not (laneSafe (rowOf (s .surface)) (s .carriers)))
     (moved
-    (not (s .started) || (ltb 7 (s .surface) || (badEnd (s .end) || badLimit (s .limit))) || ltb 64 (s .count))
+    (not (s .started))
+    (ltb 7 (s .surface))
+    (badEnd (s .end))
+    (badLimit (s .limit))
+    (ltb 64 (s .count))
     (anyOf (numbered 0) (s .carriers))
     (repeats (s .carriers))
     (anyOf (λ c. ltb (s .limit) (c .speed)) (s .carriers))
     (anyOf (λ c. leb (s .end) (c .position)) (s .carriers))))
   where
-    moved : (p u w v x : Bool) → p || (u || w) || v || x ≡ p || (u || v || x) || w
-    moved true u w v x = refl
-    moved false true w v x = refl
-    moved false false w v x = or-assoc w v x ∙ or-comm w (v || x)
+    numbers-last : (p u w v x : Bool) → p || (u || w) || v || x ≡ p || (u || v || x) || w
+    numbers-last true u w v x = refl
+    numbers-last false true w v x = refl
+    numbers-last false false w v x = or-assoc w v x ∙ or-comm w (v || x)
+
+    moved : (n s e l m u w v x : Bool) → n || (s || (e || l)) || m || (u || w) || v || x ≡ n || s || e || l || m || (u || v || x) || w
+    moved true s e l m u w v x = refl
+    moved false true e l m u w v x = refl
+    moved false false e l m u w v x = numbers-last (e || l || m) u w v x

@@ -16,13 +16,13 @@ use crate::rows;
 fn bad_end(end: u32) -> bool
     ensures { λ r. ⌜ r ≡ badEnd end ⌝ }
 {
-    if end < 1 { true } else { 2147483648 < end }
+    (end < 1) | (2147483648 < end)
 }
 
 fn bad_limit(limit: u32) -> bool
     ensures { λ r. ⌜ r ≡ badLimit limit ⌝ }
 {
-    if limit < 1 { true } else { 8192 < limit }
+    (limit < 1) | (8192 < limit)
 }
 
 pub(crate) fn start_refusal(surface: u32, end: u32, limit: u32) -> u32
@@ -44,13 +44,7 @@ pub(crate) fn start_refusal(surface: u32, end: u32, limit: u32) -> u32
 fn unlawful(c: Carrier, end: u32, limit: u32) -> bool
     ensures { λ r. ⌜ r ≡ (numbered 0 c || ltb limit (c .speed) || leb end (c .position)) ⌝ }
 {
-    if c.number == 0 {
-        return true;
-    }
-    if limit < c.speed {
-        return true;
-    }
-    end <= c.position
+    (c.number == 0) | (limit < c.speed) | (end <= c.position)
 }
 
 // The follower is safe behind the carrier ahead.
@@ -103,20 +97,8 @@ fn any_breaks(carriers: [Carrier; 64], count: usize, end: u32, limit: u32, row: 
 pub(crate) fn breaks_rule(l: Lane) -> bool
     ensures { λ r. ⌜ r ≡ broken (stateOf l) ⌝ }
 {
-    if !l.started {
-        return true;
-    }
-    if 7 < l.surface {
-        return true;
-    }
-    if bad_end(l.end) {
-        return true;
-    }
-    if bad_limit(l.limit) {
-        return true;
-    }
     let count = l.count;
-    if 64 < count {
+    if !l.started | (7 < l.surface) | bad_end(l.end) | bad_limit(l.limit) | (64 < count) {
         return true;
     }
     let carriers = l.carriers;

@@ -6,13 +6,14 @@ ghost use lib.ListN.{length};
 use libc::STDIN_FILENO;
 use libc::STDOUT_FILENO;
 
-// What one call moved, and whether the input has ended or the call has failed.
+// What one call moved, whether it moved nothing as at the end of the input, and whether it failed.
 struct Moved {
     bytes: usize,
     end: bool,
     failed: bool,
 }
 
+// Only where the call answered a number below 0 has it set `errno`.
 fn taken(got: isize, most: usize) -> Moved
     ensures { λ r. ⌜ r .bytes ≤ most ⌝ }
 {
@@ -33,8 +34,8 @@ fn taken(got: isize, most: usize) -> Moved
     }
     Moved {
         bytes: 0,
-        end: false,
-        failed: os::errno() != libc::EINTR,
+        end: got == 0,
+        failed: (got < 0) & (os::errno() != libc::EINTR),
     }
 }
 
@@ -45,13 +46,6 @@ fn read_once(buf: &mut [u8], from: usize) -> Moved
 {
     let room = buf.len() - from;
     let got = libc::read(STDIN_FILENO, &mut buf[from..]);
-    if got == 0 {
-        return Moved {
-            bytes: 0,
-            end: true,
-            failed: false,
-        };
-    }
     taken(got, room)
 }
 
@@ -88,7 +82,7 @@ fn write_once(buf: &[u8], from: usize) -> Moved
     taken(got, left)
 }
 
-// All of it, or false.
+// All of it, or false: an output that takes no byte takes none later.
 pub(crate) fn write_whole(buf: &[u8]) -> bool {
     let mut turns = u64::MAX;
     let mut at: usize = 0;
@@ -97,7 +91,7 @@ pub(crate) fn write_whole(buf: &[u8]) -> bool {
             return true;
         }
         let m = write_once(buf, at);
-        if m.failed {
+        if m.failed | m.end {
             return false;
         }
         at += m.bytes;

@@ -202,7 +202,7 @@ returns-5 c =
     let a = start w .args in
     let e : blockIn (t w) ≡ afterLine (t w) (λ t. parsed show-block 0) = rw (not-start e1, not-enter e2, not-leave e3, not-cycle e4, is-show then) refl in
     read-as e
-    (all-read (first-read (a .input .now) (a .at) (λ t. parsed show-block 0) (after-show then)) (told .run-show .ensures))
+    (all-read (first-read (a .input .now) (a .at) (λ t. parsed show-block 0) (after-show then) .there refl) (told .run-show .ensures))
 
 refused-requires : tie.Need-refused-requires
 refused-requires c κs = search needs

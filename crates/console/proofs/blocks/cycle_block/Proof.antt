@@ -6,8 +6,8 @@ use native.Mathlib.Omega.{arith}
 use borrow.Author.Tests.{not-true, not-false}
 use lib.ListN.{length, drop}
 use Rattle.lane.specs.Listing.{cars-key}
-use Rattle.console.specs.Blocks.{parsed, afterLine, field, cycle-block, wants, cycleLines}
-use Rattle.console.proofs.Lines.{Reads, first-read, field-read, field-most, field-missing, all-read, read-as}
+use Rattle.console.specs.Blocks.{parsed, afterLine, cycle-block, wants, cycleLines}
+use Rattle.console.proofs.Lines.{Reached, first-read, field-read, field-most, all-read, read-as}
 use Rattle.console.proofs.Wishing.{Asking, asking-start, asking-missing, asking-next, asking-end, asking-array}
 use Rattle.console.proofs.blocks.cycle_block.Statement.{statement}
 use Rattle.console.proofs.blocks.cycle_block.Tie as tie
@@ -22,10 +22,13 @@ abbrev μ-loop : tie.MeasureT-loop
 abbrev start : tie.After-read-field Inv-loop μ-loop → tie.Start Inv-loop μ-loop
 start c = c .before .before .before .before
 
-first : (c : tie.After-read-field Inv-loop μ-loop) → let a = start c .args in
-    Reads (a .input .now) (a .at) (a .first) (afterLine (drop (a .at) (a .input .now)) cycleLines) (λ t. field cars-key 64 t (λ cars t. wants cars t (λ ws t. parsed (cycle-block ws) 0)))
+lines : (c : tie.After-read-field Inv-loop μ-loop) → let a = start c .args in
+    Reached (a .input .now) (a .at) (c .read-field .result .next) (afterLine (drop (a .at) (a .input .now)) cycleLines)
+    (c .read-field .result .ok) (λ t. wants (c .read-field .result .value) t (λ ws t. parsed (cycle-block ws) 0))
 unfolding cycleLines
-first c = let a = start c .args in first-read (a .input .now) (a .at) cycleLines (start c .pre .1)
+lines c =
+    let a = start c .args in
+    field-read cars-key 64 (λ cars t. wants cars t (λ ws t. parsed (cycle-block ws) 0)) (c .read-field .ensures) (first-read (a .input .now) (a .at) cycleLines (start c .pre .1))
 
 slice-aggregate-read-field : tie.Need-slice-aggregate-read-field Inv-loop μ-loop
 slice-aggregate-read-field c = search needs
@@ -43,13 +46,12 @@ returns : tie.Need-returns Inv-loop μ-loop
 returns c =
     let told = c .before .before in
     let then = told .before .before in
-    let read = then .before .before in
-    read-as (field-missing _ _ _ (first read) (read .read-field .ensures) (not-true _ (then .if1 .taken))) (told .refused .ensures)
+    read-as (lines (then .before .before) .missing (not-true _ (then .if1 .taken))) (told .refused .ensures)
 
 loop-holds : tie.Need-loop-holds Inv-loop μ-loop
 loop-holds c =
     let read = c .before .before in
-    (refl, asking-start _ (field-most _ _ _ (first read) (read .read-field .ensures)) (field-read _ _ _ (first read) (read .read-field .ensures) (not-false _ (c .if1 .left))))
+    (refl, asking-start _ (field-most cars-key 64 _ (read .read-field .ensures .1 .0)) (lines read .there (not-false _ (c .if1 .left))))
 
 read-want-requires : tie.Need-read-want-requires Inv-loop μ-loop
 read-want-requires c κs = search needs

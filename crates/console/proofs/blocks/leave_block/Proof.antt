@@ -6,8 +6,8 @@ use native.Mathlib.Omega.{arith}
 use borrow.Author.Tests.{not-true, not-false}
 use lib.ListN.{drop}
 use Rattle.lane.specs.Listing.{car-key}
-use Rattle.console.specs.Blocks.{Parsed, afterLine, field, bits16, leave-block, leaveLines, parsed}
-use Rattle.console.proofs.Lines.{Reads, first-read, field-read, field-most, field-missing, all-read, read-as}
+use Rattle.console.specs.Blocks.{Parsed, afterLine, bits16, leave-block, leaveLines, parsed}
+use Rattle.console.proofs.Lines.{Reached, first-read, field-read, field-most, all-read, read-as}
 use Rattle.console.proofs.blocks.leave_block.Statement.{statement}
 use Rattle.console.proofs.blocks.leave_block.Tie as tie
 
@@ -17,10 +17,13 @@ start c = c .before .before .before .before
 abbrev car-on : ℕ → List ℕ → Parsed
 car-on car t = parsed (leave-block car) 0
 
-first : (c : tie.After-read-field) → let a = start c .args in
-    Reads (a .input .now) (a .at) (a .first) (afterLine (drop (a .at) (a .input .now)) leaveLines) (λ t. field car-key bits16 t car-on)
+lines : (c : tie.After-read-field) → let a = start c .args in
+    Reached (a .input .now) (a .at) (c .read-field .result .next) (afterLine (drop (a .at) (a .input .now)) leaveLines)
+    (c .read-field .result .ok) (car-on (c .read-field .result .value))
 unfolding leaveLines
-first c = let a = start c .args in first-read (a .input .now) (a .at) leaveLines (start c .pre .1)
+lines c =
+    let a = start c .args in
+    field-read car-key bits16 car-on (c .read-field .ensures) (first-read (a .input .now) (a .at) leaveLines (start c .pre .1))
 
 slice-aggregate-read-field : tie.Need-slice-aggregate-read-field
 slice-aggregate-read-field c = search needs
@@ -38,13 +41,10 @@ returns : tie.Need-returns
 returns c =
     let told = c .before .before in
     let then = told .before .before in
-    let read = then .before .before in
-    read-as (field-missing _ _ _ (first read) (read .read-field .ensures) (not-true _ (then .if1 .taken))) (told .refused .ensures)
+    read-as (lines (then .before .before) .missing (not-true _ (then .if1 .taken))) (told .refused .ensures)
 
 cast-run-leave : tie.Need-cast-run-leave
-cast-run-leave c =
-    let read = c .before .before .before in
-    omega (arith, field-most _ _ _ (first read) (read .read-field .ensures))
+cast-run-leave c = omega (arith, field-most car-key bits16 _ (c .before .before .before .read-field .ensures .1 .0))
 
 run-leave-requires : tie.Need-run-leave-requires
 run-leave-requires c κs = search needs
@@ -56,8 +56,7 @@ returns-2 : tie.Need-returns-2
 returns-2 c =
     let run = c .before .before in
     let else = run .before .before .before in
-    let read = else .before .before in
-    all-read (field-read _ _ _ (first read) (read .read-field .ensures) (not-false _ (else .if1 .left))) (run .run-leave .ensures)
+    all-read (lines (else .before .before) .there (not-false _ (else .if1 .left))) (run .run-leave .ensures)
 
 pub leave-block-spec : {M : Type 1} → statement M
 leave-block-spec =
