@@ -8,6 +8,7 @@ use native.Mathlib.Decide.{decLt}
 use native.Mathlib.Omega.{arith}
 use borrow.Author.Tests.{ne-eqb, ltb-true}
 use lib.ListN.{length, take, length-append}
+use Rattle.text.specs.Ascii.{ascii}
 use Rattle.text.specs.Numbers.{decimal, hexadecimal}
 use Rattle.text.specs.Lines.{line, written, placeAfter}
 use Rattle.text.proofs.Laws.{decimal-at-most, length-hexadecimal, length-line, place-fits, place-too-long, written-nothing, Put}
@@ -17,7 +18,7 @@ use Rattle.console.specs.declared.Stepped.{Stepped}
 use Rattle.wish.specs.declared.Wish.{Wish}
 use Rattle.lane.specs.Calls.{cycleNo, cycleWord, cycleGone, cycleState}
 use Rattle.console.specs.Blocks.{Block, parsed, cycle-block}
-use Rattle.console.specs.Output.{ok-cycle, over-key, gone-key, refusal, sixtyFour, blockNo, accepted, printed, stateAfter}
+use Rattle.console.specs.Output.{refusal, sixtyFour, blockNo, accepted, printed, stateAfter}
 use Rattle.console.specs.Program.{Step, ran, Gives}
 
 -- what is put lies within the buffer
@@ -86,19 +87,19 @@ module _ (l : Lane) (b : Block) {no : ℕ} (numbered : no ≡ blockNo (stateOf l
 
 -- ---- a cycle: its wishes are those of an array of 64, of which the first n are looked at
 abbrev pub cycled : (word gone : ℕ) → List ℕ
-cycled word gone = ok-cycle ++ line over-key (hexadecimal 16 word) ++ line gone-key (decimal gone)
+cycled word gone = ascii "ok=cycle\n" ++ line (ascii "over=") (hexadecimal 16 word) ++ line (ascii "gone=") (decimal gone)
 
 pub length-cycled : (word gone : ℕ) → gone < 18446744073709551616 → length (cycled word gone) ≤ 100
 length-cycled word gone h =
-    let over = line over-key (hexadecimal 16 word) in
-    let rest = line gone-key (decimal gone) in
+    let over = line (ascii "over=") (hexadecimal 16 word) in
+    let rest = line (ascii "gone=") (decimal gone) in
     omega (
       arith,
-      length-append (ok-cycle ++ over) rest,
-      length-append ok-cycle over,
-      length-line over-key (hexadecimal 16 word),
+      length-append (ascii "ok=cycle\n" ++ over) rest,
+      length-append (ascii "ok=cycle\n") over,
+      length-line (ascii "over=") (hexadecimal 16 word),
       length-hexadecimal 16 word,
-      short-line gone-key gone (omega arith) h,
+      short-line (ascii "gone=") gone (omega arith) h,
     )
 
 module _ (s : State) (n : ℕ) (wishes : List Wish) (counted : length (take n wishes) ≡ n) (array : sixtyFour (take n wishes) ≡ wishes) where

@@ -12,6 +12,7 @@ use contract.Lifetimes.{Lfts}
 use denote.Ref.{RefT, now, at-last}
 use lib.ListN.{length, take, drop, length-drop}
 use lib.Seq.{drop-drop, take-all, length-take-le}
+use Rattle.text.specs.Ascii.{ascii}
 use Rattle.text.specs.Fields.{lineLength}
 use Rattle.text.specs.Numbers.{decimal}
 use Rattle.text.proofs.Laws.{length-line, place-fits, written-up-to}
@@ -19,9 +20,9 @@ use Rattle.lane.specs.declared.Lane.{Lane}
 use Rattle.lane.specs.State.{State, stateOf}
 use Rattle.lane.proofs.empty.Reads as empty-reads
 use Rattle.console.specs.declared.Stepped.{Stepped}
-use Rattle.console.specs.Blocks.{Block, show-block, Parsed, parsed, malformed, past, afterLine, isLine, call-start, call-enter, call-leave, call-cycle, call-show, startLines, enterLines, leaveLines, cycleLines, blockIn}
+use Rattle.console.specs.Blocks.{Block, show-block, Parsed, parsed, malformed, past, afterLine, isLine, startLines, enterLines, leaveLines, cycleLines, blockIn}
 use Rattle.console.specs.Program.{Step, ran, stepOf, Gives, outputFrom, tooLong, lengthAnswer, outputOf}
-use Rattle.console.specs.Output.{no-key, refusal}
+use Rattle.console.specs.Output.{refusal}
 use Rattle.console.proofs.Printing.{short-line}
 use Rattle.console.proofs.Steps.{step-into, at-end, at-block}
 use Rattle.console.proofs.step.Reads as step-reads
@@ -67,11 +68,11 @@ either-positive false x y = y
 block-positive : (t : List ℕ) → Positive (blockIn t)
 unfolding blockIn
 block-positive t =
-    either-positive (isLine call-start t) (line-positive t startLines)
-    (either-positive (isLine call-enter t) (line-positive t enterLines)
-    (either-positive (isLine call-leave t) (line-positive t leaveLines)
-    (either-positive (isLine call-cycle t) (line-positive t cycleLines)
-    (either-positive (isLine call-show t) (line-positive t (λ t. parsed show-block 0)) none))))
+    either-positive (isLine (ascii "call=start") t) (line-positive t startLines)
+    (either-positive (isLine (ascii "call=enter") t) (line-positive t enterLines)
+    (either-positive (isLine (ascii "call=leave") t) (line-positive t leaveLines)
+    (either-positive (isLine (ascii "call=cycle") t) (line-positive t cycleLines)
+    (either-positive (isLine (ascii "call=show") t) (line-positive t (λ t. parsed show-block 0)) none))))
 
 ran-positive : (s : State) {p : Parsed} → Positive p → ran s p .stop ≡ false → 1 ≤ ran s p .used
 ran-positive s (some h) e = h
@@ -147,7 +148,7 @@ pub data Printed (input : List ℕ) : List ℕ → Type 0 where
 
 ten : (1 ≤ length (refusal 10)) × (length (refusal 10) ≤ 29)
 unfolding refusal
-ten = (omega (arith, length-line no-key (decimal 10)), short-line no-key 10 (omega arith) (omega arith))
+ten = (omega (arith, length-line (ascii "no=") (decimal 10)), short-line (ascii "no=") 10 (omega arith) (omega arith))
 
 module _ {input : List ℕ} {w : ℕ} {left : List ℕ} (m : Measured input w left) where
   abbrev answer : List ℕ

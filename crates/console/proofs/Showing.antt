@@ -8,13 +8,13 @@ use native.Mathlib.Omega.{arith}
 use borrow.Rule.Slice.PartMut.{midOf, putMid, mid-len, put-same}
 use lib.ListN.{length, drop, length-append, length-drop, take-append-drop, drop-of-length-le}
 use lib.Seq.{drop-drop}
+use Rattle.text.specs.Ascii.{ascii}
 use Rattle.text.specs.Lines.{written, placeAfter}
 use Rattle.text.proofs.Laws.{length-written, place-fits, written-fits, written-before, Put}
 use Rattle.lane.specs.State.{State}
 use Rattle.lane.specs.Calls.{broken}
 use Rattle.lane.specs.Listing.{laneText, textNo, textLength, textBytes}
 use Rattle.lane.proofs.Laws.{text-number, text-refused, text-length, text-bytes, text-room}
-use Rattle.console.specs.Output.{ok-show}
 
 -- the part from the 8th byte on
 abbrev pub part : List ℕ → List ℕ
@@ -62,18 +62,18 @@ module _ (s : State) (xs : List ℕ) (room : 4096 ≤ length xs) (n : ℕ) (numb
     pub show-length : {k : ℕ} → k ≡ textLength s (part xs) → k ≡ length (laneText s)
     show-length e = e ∙ text-length s (part xs) none
 
-    pub show-room : length (ok-show ++ laneText s) ≤ length xs
-    show-room = rw (length-append ok-show (laneText s)) (omega (arith, fits))
+    pub show-room : length (ascii "ok=show\n" ++ laneText s) ≤ length xs
+    show-room = rw (length-append (ascii "ok=show\n") (laneText s)) (omega (arith, fits))
 
-    pub show-place : {ys : List ℕ} {w : ℕ} → ys ≡ textBytes s (part xs) → w ≡ placeAfter 0 ok-show (with-part xs ys) → w ≡ 8
+    pub show-place : {ys : List ℕ} {w : ℕ} → ys ≡ textBytes s (part xs) → w ≡ placeAfter 0 (ascii "ok=show\n") (with-part xs ys) → w ≡ 8
     show-place {ys} e f =
         let long : length (with-part xs ys) ≡ length xs = ap length (text-put e) ∙ length-written 8 (laneText s) xs in
-        f ∙ place-fits 0 ok-show (with-part xs ys) (omega arith)
+        f ∙ place-fits 0 (ascii "ok=show\n") (with-part xs ys) (omega arith)
 
     pub show-put : {ys out : List ℕ} {w k : ℕ} → ys ≡ textBytes s (part xs) → k ≡ textLength s (part xs)
-        → Put 0 ok-show (with-part xs ys) out w → Put 0 (ok-show ++ laneText s) xs out (w + k)
+        → Put 0 (ascii "ok=show\n") (with-part xs ys) out w → Put 0 (ascii "ok=show\n" ++ laneText s) xs out (w + k)
     show-put {ys} {out} {w} {k} e l p =
-        let long : length (ok-show ++ laneText s) ≡ 8 + length (laneText s) = length-append ok-show (laneText s) in (
-          p .0 ∙ ap (written 0 ok-show) (text-put e) ∙ written-before 0 ok-show (laneText s) xs (omega (arith, fits)),
-          omega (arith, show-place e (p .1), show-length l, place-fits 0 (ok-show ++ laneText s) xs (omega (arith, fits))),
+        let long : length (ascii "ok=show\n" ++ laneText s) ≡ 8 + length (laneText s) = length-append (ascii "ok=show\n") (laneText s) in (
+          p .0 ∙ ap (written 0 (ascii "ok=show\n")) (text-put e) ∙ written-before 0 (ascii "ok=show\n") (laneText s) xs (omega (arith, fits)),
+          omega (arith, show-place e (p .1), show-length l, place-fits 0 (ascii "ok=show\n" ++ laneText s) xs (omega (arith, fits))),
         )

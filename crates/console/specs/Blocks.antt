@@ -9,59 +9,12 @@ use Rattle.text.specs.declared.numbers.Number.{Number}
 use Rattle.text.specs.declared.numbers.Number.the-variants as number
 use Rattle.text.specs.declared.numbers.Signed.{Signed}
 use Rattle.text.specs.declared.numbers.Signed.the-variants as signed
+use Rattle.text.specs.Ascii.{ascii}
 use Rattle.text.specs.Fields.{lineLength, hasLine, lineValue, fieldIn, isNumber, valueIn, signedIn, bitsIn}
 use Rattle.wish.specs.declared.Wish.{Wish}
 use Rattle.wish.specs.declared.Wish.the-variants.{Units, Acceleration, TargetSpeed, Hold}
 use Rattle.console.specs.declared.reading.Want.{Want}
 use Rattle.console.specs.declared.reading.Want.the-variants.{Wanted, Nothing}
-use Rattle.lane.specs.Listing.{cars-key, car-key, at-key, speed-key}
-
--- ---- "Keys:", in ASCII
-
--- `call=start`, `surface=`, `end=`, `limit=`, `cycle=`
-abbrev pub call-start : List ℕ
-call-start = 99 ∷ 97 ∷ 108 ∷ 108 ∷ 61 ∷ 115 ∷ 116 ∷ 97 ∷ 114 ∷ 116 ∷ []
-
-abbrev pub surface-key : List ℕ
-surface-key = 115 ∷ 117 ∷ 114 ∷ 102 ∷ 97 ∷ 99 ∷ 101 ∷ 61 ∷ []
-
-abbrev pub end-key : List ℕ
-end-key = 101 ∷ 110 ∷ 100 ∷ 61 ∷ []
-
-abbrev pub limit-key : List ℕ
-limit-key = 108 ∷ 105 ∷ 109 ∷ 105 ∷ 116 ∷ 61 ∷ []
-
-abbrev pub cycle-key : List ℕ
-cycle-key = 99 ∷ 121 ∷ 99 ∷ 108 ∷ 101 ∷ 61 ∷ []
-
--- `call=enter`, `call=leave`, `call=cycle`, `call=show`; their other keys are those of the lane text
-abbrev pub call-enter : List ℕ
-call-enter = 99 ∷ 97 ∷ 108 ∷ 108 ∷ 61 ∷ 101 ∷ 110 ∷ 116 ∷ 101 ∷ 114 ∷ []
-
-abbrev pub call-leave : List ℕ
-call-leave = 99 ∷ 97 ∷ 108 ∷ 108 ∷ 61 ∷ 108 ∷ 101 ∷ 97 ∷ 118 ∷ 101 ∷ []
-
-abbrev pub call-cycle : List ℕ
-call-cycle = 99 ∷ 97 ∷ 108 ∷ 108 ∷ 61 ∷ 99 ∷ 121 ∷ 99 ∷ 108 ∷ 101 ∷ []
-
-abbrev pub call-show : List ℕ
-call-show = 99 ∷ 97 ∷ 108 ∷ 108 ∷ 61 ∷ 115 ∷ 104 ∷ 111 ∷ 119 ∷ []
-
--- `want=`, `want=units:`, `want=accel:`, `want=speed:`, `want=hold`
-abbrev pub want-key : List ℕ
-want-key = 119 ∷ 97 ∷ 110 ∷ 116 ∷ 61 ∷ []
-
-abbrev pub want-units : List ℕ
-want-units = 119 ∷ 97 ∷ 110 ∷ 116 ∷ 61 ∷ 117 ∷ 110 ∷ 105 ∷ 116 ∷ 115 ∷ 58 ∷ []
-
-abbrev pub want-accel : List ℕ
-want-accel = 119 ∷ 97 ∷ 110 ∷ 116 ∷ 61 ∷ 97 ∷ 99 ∷ 99 ∷ 101 ∷ 108 ∷ 58 ∷ []
-
-abbrev pub want-speed : List ℕ
-want-speed = 119 ∷ 97 ∷ 110 ∷ 116 ∷ 61 ∷ 115 ∷ 112 ∷ 101 ∷ 101 ∷ 100 ∷ 58 ∷ []
-
-abbrev pub want-hold : List ℕ
-want-hold = 119 ∷ 97 ∷ 110 ∷ 116 ∷ 61 ∷ 104 ∷ 111 ∷ 108 ∷ 100 ∷ []
 
 -- "at, end, speed, limit, surface: 32 bits; car: 16; the start's cycle: 64": the most that each holds
 abbrev pub bits32 : ℕ
@@ -109,18 +62,18 @@ field key most t next =
 -- "`call=start`, `surface`, `end`, `limit`, `cycle`"
 unfoldable pub startLines : List ℕ → Parsed
 startLines t =
-    field surface-key bits32 t (λ surface t. field end-key bits32 t (λ end t. field limit-key bits32 t (λ limit t.
-    field cycle-key bits64 t (λ cycle t. parsed (start-block surface end limit cycle) 0))))
+    field (ascii "surface=") bits32 t (λ surface t. field (ascii "end=") bits32 t (λ end t. field (ascii "limit=") bits32 t (λ limit t.
+    field (ascii "cycle=") bits64 t (λ cycle t. parsed (start-block surface end limit cycle) 0))))
 
 -- "`call=enter`, `car`, `at`, `speed`"
 unfoldable pub enterLines : List ℕ → Parsed
 enterLines t =
-    field car-key bits16 t (λ car t. field at-key bits32 t (λ at t. field speed-key bits32 t (λ speed t.
+    field (ascii "car=") bits16 t (λ car t. field (ascii "at=") bits32 t (λ at t. field (ascii "speed=") bits32 t (λ speed t.
     parsed (enter-block car at speed) 0)))
 
 -- "`call=leave`, `car`"
 unfoldable pub leaveLines : List ℕ → Parsed
-leaveLines t = field car-key bits16 t (λ car t. parsed (leave-block car) 0)
+leaveLines t = field (ascii "car=") bits16 t (λ car t. parsed (leave-block car) 0)
 
 -- ---- "lines `want=`"
 
@@ -137,14 +90,14 @@ floatWanted f number.Malformed = Nothing
 -- "`units:` and a number, `accel:` or `speed:` and the float's bits as eight upper-case hexadecimal digits, or `hold`"
 unfoldable pub wishIn : List ℕ → Want
 wishIn t =
-    cond (hasLine want-units t) (unitsWanted (signedIn (lineValue want-units t)))
-    (cond (hasLine want-accel t) (floatWanted Acceleration (bitsIn (lineValue want-accel t)))
-    (cond (hasLine want-speed t) (floatWanted TargetSpeed (bitsIn (lineValue want-speed t)))
-    (cond (isLine want-hold t) (Wanted Hold) Nothing)))
+    cond (hasLine (ascii "want=units:") t) (unitsWanted (signedIn (lineValue (ascii "want=units:") t)))
+    (cond (hasLine (ascii "want=accel:") t) (floatWanted Acceleration (bitsIn (lineValue (ascii "want=accel:") t)))
+    (cond (hasLine (ascii "want=speed:") t) (floatWanted TargetSpeed (bitsIn (lineValue (ascii "want=speed:") t)))
+    (cond (isLine (ascii "want=hold") t) (Wanted Hold) Nothing)))
 
 -- a `want=` line
 unfoldable pub wantIn : List ℕ → Want
-wantIn t = cond (hasLine want-key t) (wishIn t) Nothing
+wantIn t = cond (hasLine (ascii "want=") t) (wishIn t) Nothing
 
 -- whether the line holds a wish
 abbrev pub isWish : Want → Bool
@@ -167,15 +120,15 @@ wants (suc n) t next = want t (λ w t. wants n t (λ ws. next (w ∷ ws)))
 
 -- "`call=cycle`, `cars` (0 to 64), and so many lines `want=`"
 unfoldable pub cycleLines : List ℕ → Parsed
-cycleLines t = field cars-key 64 t (λ cars t. wants cars t (λ ws t. parsed (cycle-block ws) 0))
+cycleLines t = field (ascii "cars=") 64 t (λ cars t. wants cars t (λ ws t. parsed (cycle-block ws) 0))
 
 -- ---- "blocks of `key=value` lines in fixed order"
 
 -- the block that a text begins with, by its `call=` line
 unfoldable pub blockIn : List ℕ → Parsed
 blockIn t =
-    cond (isLine call-start t) (afterLine t startLines)
-    (cond (isLine call-enter t) (afterLine t enterLines)
-    (cond (isLine call-leave t) (afterLine t leaveLines)
-    (cond (isLine call-cycle t) (afterLine t cycleLines)
-    (cond (isLine call-show t) (afterLine t (λ t. parsed show-block 0)) malformed))))
+    cond (isLine (ascii "call=start") t) (afterLine t startLines)
+    (cond (isLine (ascii "call=enter") t) (afterLine t enterLines)
+    (cond (isLine (ascii "call=leave") t) (afterLine t leaveLines)
+    (cond (isLine (ascii "call=cycle") t) (afterLine t cycleLines)
+    (cond (isLine (ascii "call=show") t) (afterLine t (λ t. parsed show-block 0)) malformed))))

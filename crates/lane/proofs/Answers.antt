@@ -17,7 +17,7 @@ use Rattle.lane.specs.Surface.{rowOf}
 use Rattle.lane.specs.State.{State, stateOf}
 use Rattle.lane.specs.Safety.{nobody, anyOf, numbered}
 use Rattle.lane.specs.Wishes.{drives, anyOutside, replacedIn, wordOf, countOf}
-use Rattle.lane.specs.Calls.{broken, withCarriers, startNo, startState, walk, enterNo, insertAt, enterPlace, enterState, namedNo, placeOf, namedPlace, namedCarrier, removeAt, leaveState, readReading, cycleDrives, cycleNo, cycleWord, cycleReplaced, cycleCarriers, cycleGone, cycleState}
+use Rattle.lane.specs.Calls.{broken, withCarriers, atCycle, startNo, startState, walk, enterNo, insertAt, enterPlace, enterState, namedNo, placeOf, namedPlace, namedCarrier, removeAt, leaveState, readReading, cycleDrives, cycleNo, cycleWord, cycleReplaced, cycleCarriers, cycleGone, cycleState}
 use Rattle.lane.proofs.Laws.{refused-has, accepted-has}
 use Rattle.lane.proofs.Passed.{passed}
 use Rattle.lane.proofs.Search.{place-any, place-le}
@@ -201,8 +201,6 @@ module _ (s : State) (count : ℕ) (ws : List Wish) (n : ℕ)
       unfolding cycleGone
       run-gone = sym (accepted-has (cycleNo s count ws) _ 0 cycle-runs)
 
-      pub run-state : let cs = cycleCarriers s ws in
-          record { started = s .started; surface = s .surface; end = s .end; limit = s .limit; cycle = s .cycle + 1; count = length cs; carriers = cs }
-          ≡ cycleState s count ws
+      pub run-state : atCycle (s .cycle + 1) (withCarriers s (cycleCarriers s ws)) ≡ cycleState s count ws
       unfolding cycleState
       run-state = sym (accepted-has (cycleNo s count ws) _ s cycle-runs)

@@ -14,7 +14,7 @@ use Rattle.lane.specs.Surface.{rowOf}
 use Rattle.lane.specs.State.{State}
 use Rattle.lane.specs.Safety.{nobody, safeFrom, laneSafe, anyOf, numbered, repeats}
 use Rattle.lane.specs.Wishes.{drives, allMoved, remaining}
-use Rattle.lane.specs.Calls.{badEnd, badLimit, broken, startNo, startState, walk, insertAt, gapNo, enterNo, enterState, placeOf, removeAt, namedNo, leaveState, cycleDrives, cycleNo, cycleState}
+use Rattle.lane.specs.Calls.{badEnd, badLimit, broken, withCarriers, atCycle, startNo, startState, walk, insertAt, gapNo, enterNo, enterState, placeOf, removeAt, namedNo, leaveState, cycleDrives, cycleNo, cycleState}
 use Rattle.lane.proofs.Passed.{passed}
 use Rattle.lane.proofs.Entering.{insert-length, insert-any, insert-repeats}
 use Rattle.lane.proofs.Leaving.{Thinned, removed-thins, remaining-thins, thinned-length, thinned-any, thinned-repeats, remaining-before}
@@ -68,7 +68,7 @@ module _ (s : State) (h : Sound s) where
   allowed e = record { few = omega (arith, h .count); numbers = h .numbers; distinct = h .distinct; speeds = h .speeds; safe = h .safe }
 
   kept : (cycle : ℕ) (cs : List Carrier) → Allowed (rowOf (s .surface)) (s .limit) cs → anyOf (λ c. leb (s .end) (c .position)) cs ≡ false
-      → Kept (record { started = s .started; surface = s .surface; end = s .end; limit = s .limit; cycle = cycle; count = length cs; carriers = cs })
+      → Kept (atCycle cycle (withCarriers s cs))
   kept cycle cs a e =
       record {
         sound =

@@ -8,13 +8,14 @@ use native.Mathlib.Omega.{arith}
 use borrow.Author.Tests.{lt-ltb, le-ltb}
 use lib.ListN.{length, getD, take, length-append}
 use lib.Seq.{slice}
+use Rattle.text.specs.Ascii.{ascii}
 use Rattle.text.specs.Numbers.{decimal}
 use Rattle.text.specs.Lines.{line, written}
 use Rattle.text.proofs.Laws.{decimal-at-most, length-line, length-written, place-fits, written-fits, written-nothing, written-then, Put, put-both}
 use Rattle.lane.specs.declared.Carrier.{Carrier}
 use Rattle.lane.specs.State.{State}
 use Rattle.lane.specs.Calls.{broken}
-use Rattle.lane.specs.Listing.{cars-key, car-key, at-key, speed-key, carrierText, carriersText, laneText, textNo, textLength, textBytes}
+use Rattle.lane.specs.Listing.{carrierText, carriersText, laneText, textNo, textLength, textBytes}
 use Rattle.lane.proofs.Lists.{slice-next, slice-past}
 use Rattle.lane.proofs.Laws.{refused-has, accepted-has}
 
@@ -50,15 +51,15 @@ length-next d l i count h k = ap length (carriers-next d l i count h k) ∙ simp
 -- ---- writes
 
 pub put-carrier : (at : ℕ) (c : Carrier) (buffer : List ℕ) {p q end : ℕ} {out₁ out₂ out : List ℕ} → at + length (carrierText c) ≤ length buffer
-    → Put at (line car-key (decimal (c .number))) buffer out₁ p
-    → Put p (line at-key (decimal (c .position))) out₁ out₂ q
-    → Put q (line speed-key (decimal (c .speed))) out₂ out end
+    → Put at (line (ascii "car=") (decimal (c .number))) buffer out₁ p
+    → Put p (line (ascii "at=") (decimal (c .position))) out₁ out₂ q
+    → Put q (line (ascii "speed=") (decimal (c .speed))) out₂ out end
     → (out ≡ written at (carrierText c) buffer) × (end ≡ at + length (carrierText c))
 unfolding carrierText
 put-carrier at c buffer {p} {q} {end} {out₁} {out₂} {out} room x y z =
-    let number = line car-key (decimal (c .number)) in
-    let position = line at-key (decimal (c .position)) in
-    let speed = line speed-key (decimal (c .speed)) in
+    let number = line (ascii "car=") (decimal (c .number)) in
+    let position = line (ascii "at=") (decimal (c .position)) in
+    let speed = line (ascii "speed=") (decimal (c .speed)) in
     let whole : at + length (number ++ position ++ speed) ≤ length buffer = rw append-assoc room in
     let both = put-both at number position buffer (omega (arith, length-append (number ++ position) speed)) x y in
     let all = put-both at (number ++ position) speed buffer whole both z in
@@ -71,7 +72,7 @@ pub record Writing (carriers : List Carrier) (count at₀ : ℕ) (out₀ out : L
   pub rest : written at (carriersText (slice i count carriers)) out ≡ written at₀ (carriersText (take count carriers)) out₀
 
 abbrev header : (count : ℕ) → List ℕ
-header count = line cars-key (decimal count)
+header count = line (ascii "cars=") (decimal count)
 
 -- the first line is put
 module _ (carriers : List Carrier) (count : ℕ) (buffer : List ℕ) {at₀ : ℕ} {out₀ : List ℕ}

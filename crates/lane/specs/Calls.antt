@@ -55,6 +55,19 @@ withCarriers s cs =
       carriers = cs;
     }
 
+-- the state with another cycle number
+abbrev pub atCycle : ℕ → State → State
+atCycle n s =
+    record {
+      started = s .started;
+      surface = s .surface;
+      end = s .end;
+      limit = s .limit;
+      cycle = n;
+      count = s .count;
+      carriers = s .carriers;
+    }
+
 -- a value of an accepted call; a refused one has the other
 abbrev pub ifAccepted {ℓ} : {A : Type ℓ} → (number : ℕ) → A → A → A
 ifAccepted number x y = cond (eqb number 0) x y
@@ -198,14 +211,4 @@ cycleGone s count ws = ifAccepted (cycleNo s count ws) (s .count - length (cycle
 -- "a cycle raises it by one"
 unfoldable pub cycleState : State → (count : ℕ) → List Wish → State
 cycleState s count ws =
-    let cs = cycleCarriers s ws in
-    ifAccepted (cycleNo s count ws)
-    (record {
-      started = s .started;
-      surface = s .surface;
-      end = s .end;
-      limit = s .limit;
-      cycle = s .cycle + 1;
-      count = length cs;
-      carriers = cs;
-    }) s
+    ifAccepted (cycleNo s count ws) (atCycle (s .cycle + 1) (withCarriers s (cycleCarriers s ws))) s

@@ -4,32 +4,17 @@ use mathlib.Core.Bool.{cond}
 use mathlib.Core.List.{List, [], _∷_, _++_}
 use lib.Dec.{ltb}
 use lib.ListN.{length, drop}
+use Rattle.text.specs.Ascii.{ascii}
 use Rattle.text.specs.Numbers.{decimal}
 use Rattle.text.specs.Lines.{line}
 use Rattle.lane.specs.declared.Carrier.{Carrier}
 use Rattle.lane.specs.State.{State}
 use Rattle.lane.specs.Calls.{broken, ifAccepted}
 
--- `cars=`, `car=`, `at=`, `speed=` in ASCII
-abbrev pub cars-key : List ℕ
-cars-key = 99 ∷ 97 ∷ 114 ∷ 115 ∷ 61 ∷ []
-
--- "car="
-abbrev pub car-key : List ℕ
-car-key = 99 ∷ 97 ∷ 114 ∷ 61 ∷ []
-
--- "at="
-abbrev pub at-key : List ℕ
-at-key = 97 ∷ 116 ∷ 61 ∷ []
-
--- "speed="
-abbrev pub speed-key : List ℕ
-speed-key = 115 ∷ 112 ∷ 101 ∷ 101 ∷ 100 ∷ 61 ∷ []
-
 -- "then number, position, speed"
 unfoldable pub carrierText : Carrier → List ℕ
 carrierText c =
-    line car-key (decimal (c .number)) ++ (line at-key (decimal (c .position)) ++ line speed-key (decimal (c .speed)))
+    line (ascii "car=") (decimal (c .number)) ++ (line (ascii "at=") (decimal (c .position)) ++ line (ascii "speed=") (decimal (c .speed)))
 
 -- "front to back"
 unfoldable pub carriersText : List Carrier → List ℕ
@@ -38,7 +23,7 @@ carriersText (c ∷ cs) = carrierText c ++ carriersText cs
 
 -- the lane text: the number of carriers and then each of them
 unfoldable pub laneText : State → List ℕ
-laneText s = line cars-key (decimal (s .count)) ++ carriersText (s .carriers)
+laneText s = line (ascii "cars=") (decimal (s .count)) ++ carriersText (s .carriers)
 
 -- "Lane text into a lent buffer: 21, 9."; "9 lane text longer than the buffer"
 unfoldable pub textNo : State → (buffer : List ℕ) → ℕ

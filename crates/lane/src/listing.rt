@@ -3,9 +3,10 @@ ghost use mathlib.Core.Path.{_≡_};
 ghost use mathlib.Core.List.{_++_};
 ghost use Prim.Native.Nat.{_+_, _≤_};
 ghost use lib.ListN.{length, take};
+ghost use Rattle.text.specs.Ascii.{ascii};
 ghost use Rattle.text.specs.Numbers.{decimal};
 ghost use Rattle.text.specs.Lines.{line, written};
-ghost use Rattle.lane.specs.Listing.{cars-key, carrierText, carriersText};
+ghost use Rattle.lane.specs.Listing.{carrierText, carriersText};
 use crate::Carrier;
 use crate::Lane;
 
@@ -22,7 +23,7 @@ fn carrier_length(c: Carrier) -> usize
 // How long the text is.
 pub(crate) fn text_length(l: Lane) -> usize
     requires { ⌜ l .count ≤ 64 ⌝ }
-    ensures { λ r. ⌜ (r ≡ length (line cars-key (decimal (l .count)) ++ carriersText (take (l .count) (l .carriers)))) × (r ≤ 2635) ⌝ }
+    ensures { λ r. ⌜ (r ≡ length (line (ascii "cars=") (decimal (l .count)) ++ carriersText (take (l .count) (l .carriers)))) × (r ≤ 2635) ⌝ }
 {
     let mut n: usize = 6 + text::decimal_length(l.count as u64);
     let mut i: usize = 0;
@@ -46,8 +47,8 @@ fn put_carrier(out: &mut [u8], at: usize, c: Carrier) -> usize
 
 // The text put at the buffer's start, into which it fits.
 pub(crate) fn put_text(out: &mut [u8], l: Lane)
-    requires { ⌜ (l .count ≤ 64) × (length (line cars-key (decimal (l .count)) ++ carriersText (take (l .count) (l .carriers))) ≤ length (now out)) ⌝ }
-    ensures { λ r. ⌜ now (out .exit) ≡ written 0 (line cars-key (decimal (l .count)) ++ carriersText (take (l .count) (l .carriers))) (now (out .entry)) ⌝ }
+    requires { ⌜ (l .count ≤ 64) × (length (line (ascii "cars=") (decimal (l .count)) ++ carriersText (take (l .count) (l .carriers))) ≤ length (now out)) ⌝ }
+    ensures { λ r. ⌜ now (out .exit) ≡ written 0 (line (ascii "cars=") (decimal (l .count)) ++ carriersText (take (l .count) (l .carriers))) (now (out .entry)) ⌝ }
 {
     let mut at = text::put_decimal_line(out, 0, b"cars=", l.count as u64);
     let mut i: usize = 0;

@@ -22,7 +22,7 @@ module _ (b : ℕ) where
   unfolding digitIn
   digit-ten h g = rw (le-leb 48 b h, le-leb b 57 g)
 
-  pub digit-letter : 65 ≤ b → b ≤ 70 → digitIn b ≡ b - 55
+  pub digit-letter : 65 ≤ b → b ≤ 70 → digitIn b ≡ b - 65 + 10
   unfolding digitIn
   digit-letter h g = rw (lt-leb b 57 (omega arith), and-false, le-leb 65 b h, le-leb b 70 g)
 
@@ -56,7 +56,7 @@ module _ (b : ℕ) where
   unfolding digit
   put-digit h =
       by-digit h (λ l r. rw (digit-ten l r, lt-ltb (b - 48) 10 (omega arith)) (omega arith))
-      (λ l r. rw (digit-letter l r, le-ltb (b - 55) 10 (omega arith)) (omega arith))
+      (λ l r. rw (digit-letter l r, le-ltb (b - 65 + 10) 10 (omega arith)) (omega arith))
 
 read-digit : (d : ℕ) → d < 16 → digitIn (digit d) ≡ d
 unfolding digit

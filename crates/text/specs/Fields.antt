@@ -1,5 +1,6 @@
 -- Document 01, "Call texts": what stands in a line of text, and which number it spells.
 use Prim.Native.Nat.{ℕ, zero, suc, _+_, _-_, _*_}
+use Prim.Native.Char.{code}
 use mathlib.Core.Bool.{Bool, true, false, not, _&&_, cond}
 use mathlib.Core.List.{List, [], _∷_}
 use lib.Dec.{leb, ltb, eqb}
@@ -15,7 +16,7 @@ use Rattle.text.specs.declared.numbers.Signed.the-variants as signed
 -- the bytes before the first newline, or all of them where there is none
 unfoldable pub lineLength : List ℕ → ℕ
 lineLength [] = 0
-lineLength (b ∷ bs) = cond (eqb b 10) 0 (suc (lineLength bs))
+lineLength (b ∷ bs) = cond (eqb b (code "\n")) 0 (suc (lineLength bs))
 
 -- "`key=value` lines": whether a text's first bytes are a key
 unfoldable pub startsWith : List ℕ → List ℕ → Bool
@@ -37,7 +38,8 @@ lineValue key text = cond (hasLine key text) (drop (length key) (take (lineLengt
 
 -- "upper-case hexadecimal digits", of which the decimal ones are the first ten: the number of a digit, 16 for any other byte
 unfoldable pub digitIn : ℕ → ℕ
-digitIn b = cond (leb 48 b && leb b 57) (b - 48) (cond (leb 65 b && leb b 70) (b - 55) 16)
+digitIn b =
+    cond (leb (code "0") b && leb b (code "9")) (b - code "0") (cond (leb (code "A") b && leb b (code "F")) (b - code "A" + 10) 16)
 
 -- whether all bytes are digits of a base
 unfoldable pub areDigits : ℕ → List ℕ → Bool
@@ -53,7 +55,7 @@ numberOf base a (d ∷ ds) = numberOf base (a * base + digitIn d) ds
 unfoldable pub isDecimal : List ℕ → Bool
 isDecimal [] = false
 isDecimal (d ∷ []) = areDigits 10 (d ∷ [])
-isDecimal (d ∷ e ∷ ds) = not (eqb d 48) && areDigits 10 (d ∷ e ∷ ds)
+isDecimal (d ∷ e ∷ ds) = not (eqb d (code "0")) && areDigits 10 (d ∷ e ∷ ds)
 
 -- "A number that its field's width can't hold is malformed": the most that the field holds, and its bytes
 unfoldable pub numberIn : ℕ → List ℕ → Number
@@ -73,7 +75,7 @@ plus Malformed = signed.Malformed
 -- "only units may carry a minus", "units: 16, signed": from -32768 to 32767
 unfoldable pub signedIn : List ℕ → Signed
 signedIn [] = signed.Malformed
-signedIn (d ∷ ds) = cond (eqb d 45) (minus (numberIn 32768 ds)) (plus (numberIn 32767 (d ∷ ds)))
+signedIn (d ∷ ds) = cond (eqb d (code "-")) (minus (numberIn 32768 ds)) (plus (numberIn 32767 (d ∷ ds)))
 
 -- "the float's bits as eight upper-case hexadecimal digits"
 unfoldable pub bitsIn : List ℕ → Number

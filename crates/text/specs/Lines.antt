@@ -1,5 +1,6 @@
 -- Document 01, "Call texts" and "Calls": a line, and bytes put into a lent buffer.
 use Prim.Native.Nat.{ℕ, _+_}
+use Prim.Native.Char.{code}
 use mathlib.Core.Bool.{Bool, cond}
 use mathlib.Core.List.{List, [], _∷_, _++_}
 use lib.Dec.{leb}
@@ -7,7 +8,7 @@ use lib.ListN.{length, take, drop}
 
 -- "`key=value` lines": a key with its equals sign, a value, a newline
 unfoldable pub line : List ℕ → List ℕ → List ℕ
-line key value = key ++ value ++ (10 ∷ [])
+line key value = key ++ value ++ (code "\n" ∷ [])
 
 -- whether bytes put into a buffer from a place on end within it
 unfoldable pub fits : ℕ → List ℕ → List ℕ → Bool

@@ -1,12 +1,13 @@
 -- Document 01, "Call texts": numbers as text, in ASCII.
 use Prim.Native.Nat.{ℕ, zero, suc, _+_, _-_, _/_, _%_, max}
+use Prim.Native.Char.{code}
 use mathlib.Core.Bool.{cond}
 use mathlib.Core.List.{List, [], _∷_, _++_}
 use lib.Dec.{ltb}
 
 -- "upper-case hexadecimal digits": a digit below 16 is `0` to `9`, then `A` to `F`
 unfoldable pub digit : ℕ → ℕ
-digit d = cond (ltb d 10) (48 + d) (65 + (d - 10))
+digit d = cond (ltb d 10) (code "0" + d) (code "A" + (d - 10))
 
 -- the last k digits of n in the base b, the most significant first
 unfoldable pub digits : ℕ → ℕ → ℕ → List ℕ

@@ -3,7 +3,7 @@ use borrow.Author.Needs.{needs}
 use mathlib.Core.Path.{_≡_, refl, sym, ap, ap₂, _∙_}
 use mathlib.Core.Bool.{false}
 use mathlib.Core.List.{List}
-use Prim.Native.Nat.{ℕ, _+_, _-_}
+use Prim.Native.Nat.{_+_, _-_}
 use native.Mathlib.Omega.{arith}
 use lib.Count.{ones}
 use lib.ListN.{take}
@@ -12,25 +12,12 @@ use Rattle.lane.specs.declared.Drive.{Drive}
 use Rattle.lane.specs.State.{State, stateOf}
 use Rattle.lane.specs.Safety.{nobody}
 use Rattle.lane.specs.Wishes.{drives, allMoved, anyOutside, replacedIn, wordOf, remaining}
-use Rattle.lane.specs.Calls.{withCarriers, cycleDrives, cycleCarriers}
+use Rattle.lane.specs.Calls.{withCarriers, atCycle, cycleDrives, cycleCarriers}
 use Rattle.lane.proofs.Surfaces.{sound-row}
 use Rattle.lane.proofs.Words.{word-ones}
 use Rattle.lane.proofs.Answers.{drives-are, cycle-refused, cycle-outside, cycle-sound, cycle-counted, cycle-not-last, cycle-runs, run-word, run-replaced, run-gone, run-state}
 use Rattle.lane.proofs.cycle.Statement.{statement}
 use Rattle.lane.proofs.cycle.Tie as tie
-
--- the state with another cycle number
-abbrev numbered-as : ℕ → State → State
-numbered-as n s =
-    record {
-      started = s .started;
-      surface = s .surface;
-      end = s .end;
-      limit = s .limit;
-      cycle = n;
-      count = s .count;
-      carriers = s .carriers;
-    }
 
 -- a call that has passed the checks before its wishes: what was driven is what the definition says
 module _ (d : tie.After-drive-all) where
@@ -129,7 +116,7 @@ returns-3 c =
           (
             ap₂ _-_ (counted d) (ap (λ (x : State). x .count) (lane-is d i)) ∙ run-gone (s d) (k d .before .args .count) (ws d) n e (passed d) o,
             (
-              ap (numbered-as (s d .cycle + 1)) (lane-is d i) ∙ run-state (s d) (k d .before .args .count) (ws d) n e (passed d) o,
+              ap (atCycle (s d .cycle + 1)) (lane-is d i) ∙ run-state (s d) (k d .before .args .count) (ws d) n e (passed d) o,
               λ x. absurd (omega arith),
             ),
           ),

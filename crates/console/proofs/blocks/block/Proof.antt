@@ -5,8 +5,9 @@ use mathlib.Core.Bool.{true, false}
 use mathlib.Core.List.{List}
 use Prim.Native.Nat.{ℕ, suc, _+_}
 use lib.ListN.{drop}
+use Rattle.text.specs.Ascii.{ascii}
 use Rattle.text.specs.Fields.{lineLength}
-use Rattle.console.specs.Blocks.{parsed, malformed, show-block, afterLine, isLine, call-start, call-enter, call-leave, call-cycle, call-show, startLines, enterLines, leaveLines, cycleLines, blockIn}
+use Rattle.console.specs.Blocks.{parsed, malformed, show-block, afterLine, isLine, startLines, enterLines, leaveLines, cycleLines, blockIn}
 use Rattle.console.proofs.Lines.{first-read, all-read, read-as}
 use Rattle.console.proofs.blocks.block.Statement.{statement}
 use Rattle.console.proofs.blocks.block.Tie as tie
@@ -42,46 +43,46 @@ first4 c = first3 (back4 c .before)
 abbrev first5 : tie.After-whole-line5 → tie.After-whole-line
 first5 c = first4 (back5 c .before)
 
-is-start : (c : tie.Then1) → isLine call-start (t (c .before)) ≡ true
+is-start : (c : tie.Then1) → isLine (ascii "call=start") (t (c .before)) ≡ true
 is-start c = sym (c .before .whole-line .ensures .0) ∙ c .if1 .taken
 
-not-start : (c : tie.Else1) → isLine call-start (t (c .before)) ≡ false
+not-start : (c : tie.Else1) → isLine (ascii "call=start") (t (c .before)) ≡ false
 not-start c = sym (c .before .whole-line .ensures .0) ∙ c .if1 .left
 
 after-start : (c : tie.Then1) → c .before .whole-line .result .next ≡ start (c .before) .args .at + suc (lineLength (t (c .before)))
 after-start c = rw (is-start c) at (c .before .whole-line .ensures .1)
 
-is-enter : (c : tie.Then2) → isLine call-enter (t (first2 (c .before))) ≡ true
+is-enter : (c : tie.Then2) → isLine (ascii "call=enter") (t (first2 (c .before))) ≡ true
 is-enter c = sym (c .before .whole-line2 .ensures .0) ∙ c .if2 .taken
 
-not-enter : (c : tie.Else2) → isLine call-enter (t (first2 (c .before))) ≡ false
+not-enter : (c : tie.Else2) → isLine (ascii "call=enter") (t (first2 (c .before))) ≡ false
 not-enter c = sym (c .before .whole-line2 .ensures .0) ∙ c .if2 .left
 
 after-enter : (c : tie.Then2) → c .before .whole-line2 .result .next ≡ start (first2 (c .before)) .args .at + suc (lineLength (t (first2 (c .before))))
 after-enter c = rw (is-enter c) at (c .before .whole-line2 .ensures .1)
 
-is-leave : (c : tie.Then3) → isLine call-leave (t (first3 (c .before))) ≡ true
+is-leave : (c : tie.Then3) → isLine (ascii "call=leave") (t (first3 (c .before))) ≡ true
 is-leave c = sym (c .before .whole-line3 .ensures .0) ∙ c .if3 .taken
 
-not-leave : (c : tie.Else3) → isLine call-leave (t (first3 (c .before))) ≡ false
+not-leave : (c : tie.Else3) → isLine (ascii "call=leave") (t (first3 (c .before))) ≡ false
 not-leave c = sym (c .before .whole-line3 .ensures .0) ∙ c .if3 .left
 
 after-leave : (c : tie.Then3) → c .before .whole-line3 .result .next ≡ start (first3 (c .before)) .args .at + suc (lineLength (t (first3 (c .before))))
 after-leave c = rw (is-leave c) at (c .before .whole-line3 .ensures .1)
 
-is-cycle : (c : tie.Then4) → isLine call-cycle (t (first4 (c .before))) ≡ true
+is-cycle : (c : tie.Then4) → isLine (ascii "call=cycle") (t (first4 (c .before))) ≡ true
 is-cycle c = sym (c .before .whole-line4 .ensures .0) ∙ c .if4 .taken
 
-not-cycle : (c : tie.Else4) → isLine call-cycle (t (first4 (c .before))) ≡ false
+not-cycle : (c : tie.Else4) → isLine (ascii "call=cycle") (t (first4 (c .before))) ≡ false
 not-cycle c = sym (c .before .whole-line4 .ensures .0) ∙ c .if4 .left
 
 after-cycle : (c : tie.Then4) → c .before .whole-line4 .result .next ≡ start (first4 (c .before)) .args .at + suc (lineLength (t (first4 (c .before))))
 after-cycle c = rw (is-cycle c) at (c .before .whole-line4 .ensures .1)
 
-is-show : (c : tie.Then5) → isLine call-show (t (first5 (c .before))) ≡ true
+is-show : (c : tie.Then5) → isLine (ascii "call=show") (t (first5 (c .before))) ≡ true
 is-show c = sym (c .before .whole-line5 .ensures .0) ∙ c .if5 .taken
 
-not-show : (c : tie.Else5) → isLine call-show (t (first5 (c .before))) ≡ false
+not-show : (c : tie.Else5) → isLine (ascii "call=show") (t (first5 (c .before))) ≡ false
 not-show c = sym (c .before .whole-line5 .ensures .0) ∙ c .if5 .left
 
 after-show : (c : tie.Then5) → c .before .whole-line5 .result .next ≡ start (first5 (c .before)) .args .at + suc (lineLength (t (first5 (c .before))))

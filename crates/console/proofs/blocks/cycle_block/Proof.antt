@@ -5,7 +5,7 @@ use Prim.Native.Nat.{_-_}
 use native.Mathlib.Omega.{arith}
 use borrow.Author.Tests.{not-true, not-false}
 use lib.ListN.{length, drop}
-use Rattle.lane.specs.Listing.{cars-key}
+use Rattle.text.specs.Ascii.{ascii}
 use Rattle.console.specs.Blocks.{parsed, afterLine, cycle-block, wants, cycleLines}
 use Rattle.console.proofs.Lines.{Reached, first-read, field-read, field-most, all-read, read-as}
 use Rattle.console.proofs.Wishing.{Asking, asking-start, asking-missing, asking-next, asking-end, asking-array}
@@ -28,7 +28,7 @@ lines : (c : tie.After-read-field Inv-loop μ-loop) → let a = start c .args in
 unfolding cycleLines
 lines c =
     let a = start c .args in
-    field-read cars-key 64 (λ cars t. wants cars t (λ ws t. parsed (cycle-block ws) 0)) (c .read-field .ensures) (first-read (a .input .now) (a .at) cycleLines (start c .pre .1))
+    field-read (ascii "cars=") 64 (λ cars t. wants cars t (λ ws t. parsed (cycle-block ws) 0)) (c .read-field .ensures) (first-read (a .input .now) (a .at) cycleLines (start c .pre .1))
 
 slice-aggregate-read-field : tie.Need-slice-aggregate-read-field Inv-loop μ-loop
 slice-aggregate-read-field c = search needs
@@ -51,7 +51,7 @@ returns c =
 loop-holds : tie.Need-loop-holds Inv-loop μ-loop
 loop-holds c =
     let read = c .before .before in
-    (refl, asking-start _ (field-most cars-key 64 _ (read .read-field .ensures .1 .0)) (lines read .there (not-false _ (c .if1 .left))))
+    (refl, asking-start _ (field-most (ascii "cars=") 64 _ (read .read-field .ensures .1 .0)) (lines read .there (not-false _ (c .if1 .left))))
 
 read-want-requires : tie.Need-read-want-requires Inv-loop μ-loop
 read-want-requires c κs = search needs

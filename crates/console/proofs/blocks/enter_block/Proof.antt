@@ -6,7 +6,7 @@ use Prim.Native.Nat.{ℕ}
 use native.Mathlib.Omega.{arith}
 use borrow.Author.Tests.{not-true, not-false}
 use lib.ListN.{drop}
-use Rattle.lane.specs.Listing.{car-key, at-key, speed-key}
+use Rattle.text.specs.Ascii.{ascii}
 use Rattle.console.specs.Blocks.{Parsed, parsed, afterLine, field, bits16, bits32, enter-block, enterLines}
 use Rattle.console.proofs.Lines.{Reached, first-read, field-read, field-most, all-read, read-as}
 use Rattle.console.proofs.blocks.enter_block.Statement.{statement}
@@ -26,10 +26,10 @@ abbrev speed-on : ℕ → ℕ → ℕ → List ℕ → Parsed
 speed-on car at speed t = parsed (enter-block car at speed) 0
 
 abbrev at-on : ℕ → ℕ → List ℕ → Parsed
-at-on car at t = field speed-key bits32 t (speed-on car at)
+at-on car at t = field (ascii "speed=") bits32 t (speed-on car at)
 
 abbrev car-on : ℕ → List ℕ → Parsed
-car-on car t = field at-key bits32 t (at-on car)
+car-on car t = field (ascii "at=") bits32 t (at-on car)
 
 lines : (c : tie.After-read-field3) → let a = start c .args in
     Reached (a .input .now) (a .at) (c .read-field3 .result .next) (afterLine (drop (a .at) (a .input .now)) enterLines)
@@ -39,9 +39,9 @@ unfolding enterLines
 lines c =
     let a = start c .args in
     let block = first-read (a .input .now) (a .at) enterLines (start c .pre .1) in
-    let car = field-read car-key bits16 car-on (first (second c) .read-field .ensures) block in
-    let at = field-read at-key bits32 (at-on _) (second c .read-field2 .ensures) car in
-    field-read speed-key bits32 (speed-on _ _) (c .read-field3 .ensures) at
+    let car = field-read (ascii "car=") bits16 car-on (first (second c) .read-field .ensures) block in
+    let at = field-read (ascii "at=") bits32 (at-on _) (second c .read-field2 .ensures) car in
+    field-read (ascii "speed=") bits32 (speed-on _ _) (c .read-field3 .ensures) at
 
 slice-aggregate-read-field : tie.Need-slice-aggregate-read-field
 slice-aggregate-read-field c = search needs
@@ -74,13 +74,13 @@ returns c =
     read-as (lines (then .before .before .before .before) .missing (not-true _ (then .if1 .taken))) (told .refused .ensures)
 
 cast-run-enter : tie.Need-cast-run-enter
-cast-run-enter c = omega (arith, field-most car-key bits16 _ (first (second (c .before .before .before .before .before)) .read-field .ensures .1 .0))
+cast-run-enter c = omega (arith, field-most (ascii "car=") bits16 _ (first (second (c .before .before .before .before .before)) .read-field .ensures .1 .0))
 
 cast-run-enter-2 : tie.Need-cast-run-enter-2
-cast-run-enter-2 c = omega (arith, field-most at-key bits32 _ (second (c .before .before .before .before .before .before) .read-field2 .ensures .1 .0))
+cast-run-enter-2 c = omega (arith, field-most (ascii "at=") bits32 _ (second (c .before .before .before .before .before .before) .read-field2 .ensures .1 .0))
 
 cast-run-enter-3 : tie.Need-cast-run-enter-3
-cast-run-enter-3 c = omega (arith, field-most speed-key bits32 _ (c .before .before .before .before .before .before .before .read-field3 .ensures .1 .0))
+cast-run-enter-3 c = omega (arith, field-most (ascii "speed=") bits32 _ (c .before .before .before .before .before .before .before .read-field3 .ensures .1 .0))
 
 run-enter-requires : tie.Need-run-enter-requires
 run-enter-requires c κs = start (c .before .before .before .before .before .before .before .before) .pre .0

@@ -5,7 +5,7 @@ use Prim.Native.Nat.{ℕ}
 use native.Mathlib.Omega.{arith}
 use borrow.Author.Tests.{not-true, not-false}
 use lib.ListN.{drop}
-use Rattle.lane.specs.Listing.{car-key}
+use Rattle.text.specs.Ascii.{ascii}
 use Rattle.console.specs.Blocks.{Parsed, afterLine, bits16, leave-block, leaveLines, parsed}
 use Rattle.console.proofs.Lines.{Reached, first-read, field-read, field-most, all-read, read-as}
 use Rattle.console.proofs.blocks.leave_block.Statement.{statement}
@@ -23,7 +23,7 @@ lines : (c : tie.After-read-field) → let a = start c .args in
 unfolding leaveLines
 lines c =
     let a = start c .args in
-    field-read car-key bits16 car-on (c .read-field .ensures) (first-read (a .input .now) (a .at) leaveLines (start c .pre .1))
+    field-read (ascii "car=") bits16 car-on (c .read-field .ensures) (first-read (a .input .now) (a .at) leaveLines (start c .pre .1))
 
 slice-aggregate-read-field : tie.Need-slice-aggregate-read-field
 slice-aggregate-read-field c = search needs
@@ -44,7 +44,7 @@ returns c =
     read-as (lines (then .before .before) .missing (not-true _ (then .if1 .taken))) (told .refused .ensures)
 
 cast-run-leave : tie.Need-cast-run-leave
-cast-run-leave c = omega (arith, field-most car-key bits16 _ (c .before .before .before .read-field .ensures .1 .0))
+cast-run-leave c = omega (arith, field-most (ascii "car=") bits16 _ (c .before .before .before .read-field .ensures .1 .0))
 
 run-leave-requires : tie.Need-run-leave-requires
 run-leave-requires c κs = search needs

@@ -6,7 +6,8 @@ use Prim.Native.Nat.{ℕ}
 use native.Mathlib.Omega.{arith}
 use borrow.Author.Tests.{not-true, not-false}
 use lib.ListN.{drop}
-use Rattle.console.specs.Blocks.{Parsed, parsed, afterLine, field, bits32, bits64, surface-key, end-key, limit-key, cycle-key, start-block, startLines}
+use Rattle.text.specs.Ascii.{ascii}
+use Rattle.console.specs.Blocks.{Parsed, parsed, afterLine, field, bits32, bits64, start-block, startLines}
 use Rattle.console.proofs.Lines.{Reached, first-read, field-read, field-most, all-read, read-as}
 use Rattle.console.proofs.blocks.start_block.Statement.{statement}
 use Rattle.console.proofs.blocks.start_block.Tie as tie
@@ -28,13 +29,13 @@ abbrev cycle-on : ℕ → ℕ → ℕ → ℕ → List ℕ → Parsed
 cycle-on surface end limit cycle t = parsed (start-block surface end limit cycle) 0
 
 abbrev limit-on : ℕ → ℕ → ℕ → List ℕ → Parsed
-limit-on surface end limit t = field cycle-key bits64 t (cycle-on surface end limit)
+limit-on surface end limit t = field (ascii "cycle=") bits64 t (cycle-on surface end limit)
 
 abbrev end-on : ℕ → ℕ → List ℕ → Parsed
-end-on surface end t = field limit-key bits32 t (limit-on surface end)
+end-on surface end t = field (ascii "limit=") bits32 t (limit-on surface end)
 
 abbrev surface-on : ℕ → List ℕ → Parsed
-surface-on surface t = field end-key bits32 t (end-on surface)
+surface-on surface t = field (ascii "end=") bits32 t (end-on surface)
 
 lines : (c : tie.After-read-field4) → let a = start c .args in let s = first (second (third c)) .read-field .result in
     let e = second (third c) .read-field2 .result in let m = third c .read-field3 .result in let n = c .read-field4 .result in
@@ -44,10 +45,10 @@ unfolding startLines
 lines c =
     let a = start c .args in
     let block = first-read (a .input .now) (a .at) startLines (start c .pre .1) in
-    let surface = field-read surface-key bits32 surface-on (first (second (third c)) .read-field .ensures) block in
-    let end = field-read end-key bits32 (end-on _) (second (third c) .read-field2 .ensures) surface in
-    let limit = field-read limit-key bits32 (limit-on _ _) (third c .read-field3 .ensures) end in
-    field-read cycle-key bits64 (cycle-on _ _ _) (c .read-field4 .ensures) limit
+    let surface = field-read (ascii "surface=") bits32 surface-on (first (second (third c)) .read-field .ensures) block in
+    let end = field-read (ascii "end=") bits32 (end-on _) (second (third c) .read-field2 .ensures) surface in
+    let limit = field-read (ascii "limit=") bits32 (limit-on _ _) (third c .read-field3 .ensures) end in
+    field-read (ascii "cycle=") bits64 (cycle-on _ _ _) (c .read-field4 .ensures) limit
 
 slice-aggregate-read-field : tie.Need-slice-aggregate-read-field
 slice-aggregate-read-field c = search needs
@@ -88,17 +89,17 @@ returns c =
 cast-run-start : tie.Need-cast-run-start
 cast-run-start c =
     let last = c .before .before .before .before .before .before in
-    omega (arith, field-most surface-key bits32 _ (first (second (third last)) .read-field .ensures .1 .0))
+    omega (arith, field-most (ascii "surface=") bits32 _ (first (second (third last)) .read-field .ensures .1 .0))
 
 cast-run-start-2 : tie.Need-cast-run-start-2
 cast-run-start-2 c =
     let last = c .before .before .before .before .before .before .before in
-    omega (arith, field-most end-key bits32 _ (second (third last) .read-field2 .ensures .1 .0))
+    omega (arith, field-most (ascii "end=") bits32 _ (second (third last) .read-field2 .ensures .1 .0))
 
 cast-run-start-3 : tie.Need-cast-run-start-3
 cast-run-start-3 c =
     let last = c .before .before .before .before .before .before .before .before in
-    omega (arith, field-most limit-key bits32 _ (third last .read-field3 .ensures .1 .0))
+    omega (arith, field-most (ascii "limit=") bits32 _ (third last .read-field3 .ensures .1 .0))
 
 run-start-requires : tie.Need-run-start-requires
 run-start-requires c κs = start (c .before .before .before .before .before .before .before .before .before) .pre .0

@@ -5,22 +5,23 @@ use mathlib.Core.Bool.{true, false}
 use mathlib.Core.List.{List}
 use Prim.Native.Nat.{ℕ}
 use lib.ListN.{drop}
+use Rattle.text.specs.Ascii.{ascii}
 use Rattle.text.specs.Fields.{hasLine, signedIn, bitsIn}
 use Rattle.wish.specs.declared.Wish.the-variants.{Acceleration, TargetSpeed}
-use Rattle.console.specs.Blocks.{want-units, want-accel, want-speed, want-hold, isLine, unitsWanted, floatWanted, wishIn}
+use Rattle.console.specs.Blocks.{isLine, unitsWanted, floatWanted, wishIn}
 use Rattle.console.proofs.reading.wish_in.Statement.{statement}
 use Rattle.console.proofs.reading.wish_in.Tie as tie
 
 abbrev t : tie.After-read-line → List ℕ
 t c = let a = c .before .before .before .args in drop (a .at) (a .input .now)
 
-no-units : (c : tie.Else1) → hasLine want-units (t (c .before)) ≡ false
+no-units : (c : tie.Else1) → hasLine (ascii "want=units:") (t (c .before)) ≡ false
 no-units c = sym (c .before .read-line .ensures .0) ∙ c .if1 .left
 
-no-accel : (c : tie.Else2) → hasLine want-accel (t (c .before .before .before .before)) ≡ false
+no-accel : (c : tie.Else2) → hasLine (ascii "want=accel:") (t (c .before .before .before .before)) ≡ false
 no-accel c = sym (c .before .read-line2 .ensures .0) ∙ c .if2 .left
 
-no-speed : (c : tie.Else3) → hasLine want-speed (t (c .before .before .before .before .before .before .before)) ≡ false
+no-speed : (c : tie.Else3) → hasLine (ascii "want=speed:") (t (c .before .before .before .before .before .before .before)) ≡ false
 no-speed c = sym (c .before .read-line3 .ensures .0) ∙ c .if3 .left
 
 slice-aggregate-read-line : tie.Need-slice-aggregate-read-line
@@ -43,7 +44,7 @@ unfolding wishIn
 returns c =
     let value = c .before in
     let then = value .before .before in
-    let has : hasLine want-units (t (then .before)) ≡ true = sym (then .before .read-line .ensures .0) ∙ then .if1 .taken in
+    let has : hasLine (ascii "want=units:") (t (then .before)) ≡ true = sym (then .before .read-line .ensures .0) ∙ then .if1 .taken in
     rw has (c .units-wanted .ensures ∙ ap (λ (d : List ℕ). unitsWanted (signedIn d)) (value .line-value .ensures))
 
 slice-aggregate-read-line-2 : tie.Need-slice-aggregate-read-line-2
@@ -67,7 +68,7 @@ returns-2 c =
     let value = c .before in
     let then = value .before .before in
     let else = then .before .before .before in
-    let has : hasLine want-accel (t (else .before)) ≡ true = sym (then .before .read-line2 .ensures .0) ∙ then .if2 .taken in
+    let has : hasLine (ascii "want=accel:") (t (else .before)) ≡ true = sym (then .before .read-line2 .ensures .0) ∙ then .if2 .taken in
     rw (no-units else, has)
     (c .float-wanted .ensures ∙ ap (λ (d : List ℕ). floatWanted (λ x. Acceleration x) (bitsIn d)) (value .line-value2 .ensures))
 
@@ -93,7 +94,7 @@ returns-3 c =
     let then = value .before .before in
     let else = then .before .before .before in
     let first = else .before .before .before in
-    let has : hasLine want-speed (t (first .before)) ≡ true = sym (then .before .read-line3 .ensures .0) ∙ then .if3 .taken in
+    let has : hasLine (ascii "want=speed:") (t (first .before)) ≡ true = sym (then .before .read-line3 .ensures .0) ∙ then .if3 .taken in
     rw (no-units first, no-accel else, has)
     (c .float-wanted2 .ensures ∙ ap (λ (d : List ℕ). floatWanted (λ x. TargetSpeed x) (bitsIn d)) (value .line-value3 .ensures))
 
@@ -109,7 +110,7 @@ returns-4 c =
     let else = c .before .before .before in
     let second = else .before .before .before in
     let first = second .before .before .before in
-    let has : isLine want-hold (t (first .before)) ≡ true = sym (c .before .whole-line .ensures .0) ∙ c .if4 .taken in
+    let has : isLine (ascii "want=hold") (t (first .before)) ≡ true = sym (c .before .whole-line .ensures .0) ∙ c .if4 .taken in
     rw (no-units first, no-accel second, no-speed else, has) refl
 
 returns-5 : tie.Need-returns-5
@@ -118,7 +119,7 @@ returns-5 c =
     let else = c .before .before .before in
     let second = else .before .before .before in
     let first = second .before .before .before in
-    let has : isLine want-hold (t (first .before)) ≡ false = sym (c .before .whole-line .ensures .0) ∙ c .if4 .left in
+    let has : isLine (ascii "want=hold") (t (first .before)) ≡ false = sym (c .before .whole-line .ensures .0) ∙ c .if4 .left in
     rw (no-units first, no-accel second, no-speed else, has) refl
 
 pub wish-in-spec : {M : Type 1} → statement M

@@ -3,7 +3,8 @@ use borrow.Author.Needs.{needs}
 use Prim.Native.Nat.{_≤_}
 use native.Mathlib.Omega.{arith}
 use lib.ListN.{length}
-use Rattle.console.specs.Output.{no-key, refusal}
+use Rattle.text.specs.Ascii.{ascii}
+use Rattle.console.specs.Output.{refusal}
 use Rattle.console.proofs.Printing.{short-line, gives-put}
 use Rattle.console.proofs.runs.refused.Statement.{statement}
 use Rattle.console.proofs.runs.refused.Tie as tie
@@ -19,7 +20,7 @@ unfolding refusal
 returns c =
     let put = c .before .before in
     let a = put .before .before .before .args in
-    let room : length (refusal (a .no)) ≤ length (a .out .now) = omega (arith, short-line no-key (a .no) (omega arith) (omega arith)) in
+    let room : length (refusal (a .no)) ≤ length (a .out .now) = omega (arith, short-line (ascii "no=") (a .no) (omega arith) (omega arith)) in
     gives-put (a .l) (a .next) (a .stop) (refusal (a .no)) room (put .put-refusal .ensures)
 
 pub refused-spec : {M : Type 1} → statement M

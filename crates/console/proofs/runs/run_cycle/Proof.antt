@@ -7,11 +7,12 @@ use Prim.Native.Nat.{ℕ, _≤_, _<_}
 use native.Mathlib.Omega.{arith}
 use lib.ListN.{length, take, length-append}
 use lib.Seq.{length-take-le}
+use Rattle.text.specs.Ascii.{ascii}
 use Rattle.text.specs.Numbers.{decimal, hexadecimal}
 use Rattle.text.specs.Lines.{line}
 use Rattle.lane.specs.State.{State, stateOf}
 use Rattle.console.specs.Blocks.{Block, cycle-block}
-use Rattle.console.specs.Output.{ok-cycle, over-key, gone-key, blockNo, accepted, stateAfter}
+use Rattle.console.specs.Output.{blockNo, accepted, stateAfter}
 use Rattle.text.proofs.Laws.{put-both}
 use Rattle.console.proofs.Printing.{gives-put, run-refused, run-accepted, cycled, length-cycled, cycle-number, cycle-accepted, cycle-after}
 use Rattle.console.proofs.runs.run_cycle.Statement.{statement}
@@ -99,15 +100,15 @@ returns-2 c =
     let else = first .before .before .before in
     let call = else .before .before .before in
     let a = call .before .before .args in
-    let over = line over-key (hexadecimal 16 (call .cycle .result .word)) in
-    let gone = line gone-key (decimal (call .cycle .result .gone)) in
+    let over = line (ascii "over=") (hexadecimal 16 (call .cycle .result .word)) in
+    let gone = line (ascii "gone=") (decimal (call .cycle .result .gone)) in
     let long = length-cycled (call .cycle .result .word) (call .cycle .result .gone) (gone-fits call) in
     let room : length (text call) ≤ length (a .out .now) = omega arith in
-    let shorter : length (ok-cycle ++ over) ≤ length (a .out .now) = omega (arith, length-append (ok-cycle ++ over) gone) in
+    let shorter : length (ascii "ok=cycle\n" ++ over) ≤ length (a .out .now) = omega (arith, length-append (ascii "ok=cycle\n" ++ over) gone) in
     run-accepted (a .l) (block call) (numbered call) (after call) (call .cycle .ensures .1 .1 .1 .1 .1) (else .if1 .left) (text call) (prints call)
     (gives-put (call .cycle .result .lane) (a .next) false (text call) room
-    (put-both 0 (ok-cycle ++ over) gone (a .out .now) (omega (arith, room))
-    (put-both 0 ok-cycle over (a .out .now) (omega (arith, shorter)) (first .put-bytes .ensures) (second .put-hexadecimal-line .ensures))
+    (put-both 0 (ascii "ok=cycle\n" ++ over) gone (a .out .now) (omega (arith, room))
+    (put-both 0 (ascii "ok=cycle\n") over (a .out .now) (omega (arith, shorter)) (first .put-bytes .ensures) (second .put-hexadecimal-line .ensures))
     (third .put-decimal-line .ensures)))
 
 pub run-cycle-spec : {M : Type 1} → statement M

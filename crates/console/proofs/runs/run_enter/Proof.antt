@@ -6,11 +6,12 @@ use mathlib.Core.List.{List, _++_}
 use Prim.Native.Nat.{ℕ, _≤_}
 use native.Mathlib.Omega.{arith}
 use lib.ListN.{length, length-append}
+use Rattle.text.specs.Ascii.{ascii}
 use Rattle.text.specs.Numbers.{decimal}
 use Rattle.text.specs.Lines.{line}
 use Rattle.lane.specs.State.{stateOf}
 use Rattle.console.specs.Blocks.{Block, enter-block}
-use Rattle.console.specs.Output.{ok-enter, place-key, blockNo, accepted, stateAfter}
+use Rattle.console.specs.Output.{blockNo, accepted, stateAfter}
 use Rattle.text.proofs.Laws.{put-both}
 use Rattle.console.proofs.Printing.{short-line, gives-put, run-refused, run-accepted}
 use Rattle.console.proofs.runs.run_enter.Statement.{statement}
@@ -20,11 +21,11 @@ abbrev block : tie.After-enter → Block
 block c = let a = c .before .before .args in enter-block (a .car) (a .at) (a .speed)
 
 abbrev text : tie.After-enter → List ℕ
-text c = ok-enter ++ line place-key (decimal (c .enter .result .place))
+text c = ascii "ok=enter\n" ++ line (ascii "place=") (decimal (c .enter .result .place))
 
 prints : (c : tie.After-enter) → accepted (stateOf (c .before .before .args .l)) (block c) ≡ text c
 unfolding accepted
-prints c = ap (λ (p : ℕ). ok-enter ++ line place-key (decimal p)) (sym (c .enter .ensures .1 .0))
+prints c = ap (λ (p : ℕ). (ascii "ok=enter\n") ++ line (ascii "place=") (decimal p)) (sym (c .enter .ensures .1 .0))
 
 enter-requires : tie.Need-enter-requires
 enter-requires c κs = search needs
@@ -67,13 +68,13 @@ returns-2 c =
     let else = first .before .before .before in
     let call = else .before .before .before in
     let a = call .before .before .args in
-    let place = line place-key (decimal (call .enter .result .place)) in
+    let place = line (ascii "place=") (decimal (call .enter .result .place)) in
     let room : length (text call) ≤ length (a .out .now) =
-    omega (arith, length-append ok-enter place, short-line place-key (call .enter .result .place) (omega arith) (search needs)) in
+    omega (arith, length-append (ascii "ok=enter\n") place, short-line (ascii "place=") (call .enter .result .place) (omega arith) (search needs)) in
     let e = call .enter .ensures in
     run-accepted (a .l) (block call) (e .0) (e .1 .1 .0) (e .1 .1 .1) (else .if1 .left) (text call) (prints call)
     (gives-put (call .enter .result .lane) (a .next) false (text call) room
-    (put-both 0 ok-enter place (a .out .now) (omega (arith, room)) (first .put-bytes .ensures) (second .put-decimal-line .ensures)))
+    (put-both 0 (ascii "ok=enter\n") place (a .out .now) (omega (arith, room)) (first .put-bytes .ensures) (second .put-decimal-line .ensures)))
 
 pub run-enter-spec : {M : Type 1} → statement M
 run-enter-spec =

@@ -4,10 +4,11 @@ use mathlib.Core.Path.{_≡_, refl}
 use mathlib.Core.Bool.{false}
 use mathlib.Core.List.{_++_}
 use native.Mathlib.Omega.{arith}
+use Rattle.text.specs.Ascii.{ascii}
 use Rattle.lane.specs.State.{State, stateOf}
 use Rattle.lane.specs.Listing.{laneText}
 use Rattle.console.specs.Blocks.{show-block}
-use Rattle.console.specs.Output.{ok-show, blockNo, accepted, stateAfter}
+use Rattle.console.specs.Output.{blockNo, accepted, stateAfter}
 use Rattle.console.proofs.Printing.{gives-put, gives-into, run-refused, run-accepted}
 use Rattle.console.proofs.Showing.{show-number, show-refused, fits, show-length, show-room, show-place, show-put}
 use Rattle.console.proofs.runs.run_show.Statement.{statement}
@@ -84,7 +85,7 @@ returns-2 c =
     let call = else .before .before .before .before in
     let s = start call in
     let e = call .lane-text .ensures in
-    let text = ok-show ++ laneText (state call) in
+    let text = ascii "ok=show\n" ++ laneText (state call) in
     run-accepted (s .args .l) show-block (numbered call) refl (λ h. refl) (else .if1 .left) text refl
     (gives-put (s .args .l) (s .args .next) false text (show-room (state call) (s .args .out .now) (s .pre) _ (e .0) (else .if1 .left))
     (show-put (state call) (s .args .out .now) (s .pre) _ (e .0) (else .if1 .left) (e .1 .1 .0) (e .1 .0) (put .put-bytes .ensures)))
