@@ -9,6 +9,7 @@ use Rattle.lane.specs.State.{State}
 use Rattle.lane.specs.Safety.{laneSafe, anyOf, numbered, repeats}
 use Rattle.lane.specs.Calls.{badEnd, badLimit, broken}
 use Rattle.lane.proofs.Tests.{neither, any-or}
+use Rattle.lane.proofs.Faults.{faulty}
 
 pub record Sound (s : State) : Type 0 where
   pub started : s .started ≡ true
@@ -81,37 +82,35 @@ sound-holds s h =
     )
     refl
 
--- the rules as the code checks them: the bounds in one go, and the three of a carrier by itself as one test
+-- the rules as the code checks them: the bounds in one go, and then the carriers
 pub broken-checks : (s : State)
     → broken s
     ≡ not (s .started) || ltb 7 (s .surface) || badEnd (s .end) || badLimit (s .limit) || ltb 64 (s .count)
-    || anyOf (λ c. numbered 0 c || ltb (s .limit) (c .speed) || leb (s .end) (c .position)) (s .carriers)
-    || repeats (s .carriers)
-    || not (laneSafe (rowOf (s .surface)) (s .carriers))
+    || faulty (s .end) (s .limit) (rowOf (s .surface)) (s .carriers)
 unfolding broken
 broken-checks s =
     rw (
       any-or (λ c. numbered 0 c || ltb (s .limit) (c .speed)) (λ c. leb (s .end) (c .position)) (s .carriers),
       any-or (numbered 0) (λ c. ltb (s .limit) (c .speed)) (s .carriers),
+      ← grouped (not (s .started)) (ltb 7 (s .surface)) (badEnd (s .end)) (badLimit (s .limit)),
     )
-    (ap (λ (t : Bool). t || not (laneSafe (rowOf (s .surface)) (s .carriers)))
     (moved
-    (not (s .started))
-    (ltb 7 (s .surface))
-    (badEnd (s .end))
-    (badLimit (s .limit))
-    (ltb 64 (s .count))
+    (not (s .started) || (ltb 7 (s .surface) || (badEnd (s .end) || badLimit (s .limit))) || ltb 64 (s .count))
     (anyOf (numbered 0) (s .carriers))
     (repeats (s .carriers))
     (anyOf (λ c. ltb (s .limit) (c .speed)) (s .carriers))
-    (anyOf (λ c. leb (s .end) (c .position)) (s .carriers))))
+    (anyOf (λ c. leb (s .end) (c .position)) (s .carriers))
+    (not (laneSafe (rowOf (s .surface)) (s .carriers))))
   where
-    numbers-last : (p u w v x : Bool) → p || (u || w) || v || x ≡ p || (u || v || x) || w
-    numbers-last true u w v x = refl
-    numbers-last false true w v x = refl
-    numbers-last false false w v x = or-assoc w v x ∙ or-comm w (v || x)
+    numbers-last : (u w v x : Bool) → u || w || v || x ≡ u || v || x || w
+    numbers-last true w v x = refl
+    numbers-last false w v x = or-assoc w v x ∙ or-comm w (v || x)
 
-    moved : (n s e l m u w v x : Bool) → n || (s || (e || l)) || m || (u || w) || v || x ≡ n || s || e || l || m || (u || v || x) || w
-    moved true s e l m u w v x = refl
-    moved false true e l m u w v x = refl
-    moved false false e l m u w v x = numbers-last (e || l || m) u w v x
+    moved : (p u w v x y : Bool) → p || (u || w) || v || x || y ≡ p || (u || v || x || w || y)
+    moved true u w v x y = refl
+    moved false u w v x y = ap (λ (t : Bool). t || y) (numbers-last u w v x)
+
+    grouped : (n s e l : Bool) → n || (s || (e || l)) ≡ n || s || e || l
+    grouped true s e l = refl
+    grouped false true e l = refl
+    grouped false false e l = refl

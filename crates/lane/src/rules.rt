@@ -5,7 +5,7 @@ ghost use Prim.Native.Nat.{_≤_};
 ghost use lib.Dec.{eqb, leb, ltb};
 ghost use lib.ListN.{take};
 ghost use Rattle.lane.specs.State.{stateOf};
-ghost use Rattle.lane.specs.Safety.{leader, safeWith, laneSafe, anyOf, numbered, repeats};
+ghost use Rattle.lane.specs.Safety.{leader, safeWith, numbered};
 ghost use Rattle.lane.specs.Calls.{badEnd, badLimit, broken, startNo, gapNo, enterNo, enterPlace, namedNo, namedPlace};
 use crate::Carrier;
 use crate::Lane;
@@ -62,27 +62,32 @@ fn safe(row: Row, ahead: Carrier, c: Carrier) -> bool
     )
 }
 
-// Some carrier breaks a rule by itself, with the one behind it or by its number. From the back: a number whose low byte no carrier passed
-// has is new, and only the others are searched for.
-fn any_breaks(carriers: [Carrier; 64], count: usize, end: u32, limit: u32, row: Row) -> bool
-    requires { ⌜ (count ≤ 64) × ((1 ≤ row .guaranteed) × (1 ≤ row .hardest)) ⌝ }
-    ensures { λ r. ⌜ r ≡ (anyOf (λ c. numbered 0 c || ltb limit (c .speed) || leb end (c .position)) (take count carriers) || repeats (take count carriers) || not (laneSafe row (take count carriers))) ⌝ }
+// Check 21: the bounds, and then each carrier by itself, with the one behind it and by its number. From the back: a number whose low byte no
+// carrier passed has is new, and only the others are searched for.
+pub(crate) fn breaks_rule(l: Lane) -> bool
+    ensures { λ r. ⌜ r ≡ broken (stateOf l) ⌝ }
 {
+    let count = l.count;
+    if !l.started | (7 < l.surface) | bad_end(l.end) | bad_limit(l.limit) | (64 < count) {
+        return true;
+    }
+    let row = rows::row(l.surface);
     let mut met = [false; 256];
     let mut i = count;
     while 0 < i {
-        let c = carriers[i - 1];
-        if unlawful(c, end, limit) {
+        let c = l.carriers[i - 1];
+        if unlawful(c, l.end, l.limit) {
             return true;
         }
         if i < count {
-            let follower = carriers[i];
+            let follower = l.carriers[i];
             if !safe(row, c, follower) {
                 return true;
             }
         }
         let low = (c.number % 256) as usize;
         if met[low] {
+            let carriers = l.carriers;
             if places::find_from(carriers, i, count, c.number) < count {
                 return true;
             }
@@ -91,18 +96,6 @@ fn any_breaks(carriers: [Carrier; 64], count: usize, end: u32, limit: u32, row: 
         i -= 1;
     }
     false
-}
-
-// Check 21.
-pub(crate) fn breaks_rule(l: Lane) -> bool
-    ensures { λ r. ⌜ r ≡ broken (stateOf l) ⌝ }
-{
-    let count = l.count;
-    if !l.started | (7 < l.surface) | bad_end(l.end) | bad_limit(l.limit) | (64 < count) {
-        return true;
-    }
-    let carriers = l.carriers;
-    any_breaks(carriers, count, l.end, l.limit, rows::row(l.surface))
 }
 
 // A check's number, 0 where all are passed, and the place that the call is about.
