@@ -10,6 +10,7 @@ use native.Mathlib.Omega.{arith}
 use borrow.Author.Tests.{lt-ltb}
 use contract.Lifetimes.{Lfts}
 use denote.Ref.{RefT, now, at-last}
+use lib.Dec.{eqb, leb}
 use lib.ListN.{length, take, drop, length-drop}
 use lib.Seq.{drop-drop, take-all, length-take-le}
 use Rattle.text.specs.Ascii.{ascii}
@@ -21,7 +22,7 @@ use Rattle.lane.specs.State.{State, stateOf}
 use Rattle.lane.proofs.empty.Reads as empty-reads
 use Rattle.console.specs.declared.Stepped.{Stepped}
 use Rattle.console.specs.Blocks.{Block, show-block, Parsed, parsed, malformed, past, afterLine, isLine, startLines, enterLines, leaveLines, cycleLines, blockIn}
-use Rattle.console.specs.Program.{Step, ran, stepOf, Gives, outputFrom, tooLong, lengthAnswer, outputOf}
+use Rattle.console.specs.Program.{Step, halted, ran, stepOf, stepInto, Gives, outputFrom, tooLong, lengthAnswer, outputOf}
 use Rattle.console.specs.Output.{refusal}
 use Rattle.console.proofs.Printing.{short-line}
 use Rattle.console.proofs.Steps.{step-into, at-end, at-block}
@@ -114,6 +115,20 @@ module _ {input : List ℕ} {l : Lane} {at : ℕ} {r : Stepped} {left : List ℕ
   fewer n h e =
       let u = by-length (stateOf l) (drop at input) (decLt (length (drop at input)) 1) (sym (gave .stop) ∙ e) in
       rw on (omega (arith, length-drop (x .used) (drop at input)))
+
+-- where the program stops, malformed blocks and short buffers included, the very lane comes back
+stops-keeping : (s : State) (long ended : Bool) (p : Parsed) → cond long (cond ended (halted s) (ran s p)) (halted s) .stop ≡ true
+    → cond long (cond ended (halted s) (ran s p)) (halted s) .keeps ≡ true
+stops-keeping s false ended p e = refl
+stops-keeping s true true p e = refl
+stops-keeping s true false (parsed b used) e = absurd (true≢false (sym e))
+stops-keeping s true false malformed e = refl
+
+pub stopped-lane : (l : Lane) (t : List ℕ) {at : ℕ} {buffer left : List ℕ} {r : Stepped} → Gives l (stepInto buffer (stateOf l) t) at buffer r left
+    → r .stop ≡ true → r .lane ≡ l
+unfolding stepInto stepOf
+stopped-lane l t {buffer = buffer} g e =
+    g .kept (stops-keeping (stateOf l) (leb 4096 (length buffer)) (eqb (length t) 0) (blockIn t) (sym (g .stop) ∙ e))
 
 from : (input : List ℕ) (n : ℕ) {l : Lane} {at : ℕ} {out : List ℕ} → Ran input l at out → length (drop at input) ≤ n
     → out ≡ outputFrom n (stateOf l) (drop at input)
