@@ -1,4 +1,4 @@
--- Document 01, "Call texts": "ASCII". Keys and words are written in quotes.
+-- Document 01, "Call texts": how its keys and words are written in the definitions, in quotes.
 use Prim.Native.Nat.{ℕ}
 use Prim.Native.Char.{code}
 use Prim.Native.String.{String}
