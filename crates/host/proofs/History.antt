@@ -1,10 +1,9 @@
 -- The theorem over histories, of the functions that a host calls: each is a call of the lane's history by its own contract, but for a cycle
 -- whose wishes cannot be made, which leaves the lane as it was and is no call of the lane.
-use mathlib.Core.Path.{_≡_, refl, _∙_, subst}
+use mathlib.Core.Path.{_≡_, refl, ap, subst}
 use mathlib.Core.Bool.{Bool, true, false, cond}
 use mathlib.Core.List.{List, [], _∷_, _++_}
 use Prim.Native.Nat.{ℕ}
-use native.Mathlib.Omega.{arith}
 use borrow.Author.Tests.{eqb-true, eqb-false}
 use contract.Lifetimes.{Lfts}
 use denote.Ref.{RefT, now, at-last}
@@ -14,10 +13,11 @@ use Rattle.lane.specs.declared.Cycled.{Cycled}
 use Rattle.lane.specs.declared.Entered.{Entered}
 use Rattle.lane.specs.declared.Lane.{Lane}
 use Rattle.lane.specs.declared.ReadOut.{ReadOut}
-use Rattle.lane.specs.Book.{start-call, enter-call, leave-call, cycle-call, read-call, text-call, begun}
-use Rattle.lane.specs.History.{Told, Entry, Throughout}
-use Rattle.lane.proofs.Laws.{refused-has, accepted-has}
-use Rattle.lane.proofs.History.{Ran, none-yet, then, history}
+use Rattle.lane.specs.Call.{start-call, enter-call, leave-call, cycle-call, read-call, text-call}
+use Rattle.lane.specs.Gives.{Told}
+use Rattle.history.specs.Book.{begun}
+use Rattle.history.specs.History.{Entry, Ran, none-yet, then, Throughout}
+use Rattle.history.proofs.History.{history}
 use Rattle.host.specs.Wishes.{wishesNo, wishesOf}
 use Rattle.host.proofs.Making.{sixty-four}
 use Rattle.host.proofs.rondavitse_start.Reads as start-reads
@@ -63,24 +63,11 @@ one-cycle l d es κs count sorts values a s r = by-test (eqb (wishesNo count (no
         → Ran l (cond t (record { call = cycle-call count (wishesOf count (now sorts) (now values)); reply = a } ∷ []) [] ++ es) d
     by-test true e =
         let z = eqb-true (wishesNo count (now sorts) (now values)) 0 e in
-        then {e = record { call = cycle-call count (wishesOf count (now sorts) (now values)); reply = a }} (
-          sixty-four count (now sorts) (now values) z,
-          (
-            s .0 ∙ accepted-has _ _ _ z,
-            (
-              s .1 .0 ∙ accepted-has _ _ _ z,
-              (
-                s .1 .1 .0 ∙ accepted-has _ _ _ z,
-                (s .1 .1 .1 .0 ∙ accepted-has _ _ _ z, (s .1 .1 .1 .1 .0 ∙ accepted-has _ _ _ z, s .1 .1 .1 .1 .1)),
-              ),
-            ),
-          ),
-        )
-        r
+        then {e = record { call = cycle-call count (wishesOf count (now sorts) (now values)); reply = a }}
+        (sixty-four count (now sorts) (now values) z, s .made z) r
     by-test false e =
-        let h = eqb-false (wishesNo count (now sorts) (now values)) 0 e in
-        let n = s .0 ∙ refused-has _ _ _ h in
-        subst (λ (x : Lane). Ran x es d) (s .1 .1 .1 .1 .1 (omega (arith, n, h))) r
+        let h = s .unmade (eqb-false (wishesNo count (now sorts) (now values)) 0 e) in
+        subst (λ (x : Lane). Ran x es d) (ap (λ (x : Cycled). x .lane) h) r
 
 is-ran : {l d : Lane} {es : List Entry} → HostRan l es d → Ran l es d
 is-ran nothing-yet = none-yet

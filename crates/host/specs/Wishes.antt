@@ -1,5 +1,6 @@
 -- Wishes as a host hands them in, as two arrays of numbers: a sort for each, and a value. An exported function takes no enum.
 use Prim.Native.Nat.{ℕ, _-_, min}
+use mathlib.Core.Path.{_≡_}
 use mathlib.Core.Bool.{Bool, true, false, _||_, cond}
 use mathlib.Core.List.{List, [], _∷_, _++_}
 use lib.Dec.{eqb, ltb}
@@ -8,6 +9,9 @@ use lib.Ieee.{binary32, ofBits}
 use lib.ListN.{length, take, replicate}
 use Rattle.wish.specs.declared.Wish.{Wish}
 use Rattle.wish.specs.declared.Wish.the-variants.{Units, Acceleration, TargetSpeed, Hold}
+use Rattle.lane.specs.declared.Cycled.{Cycled}
+use Rattle.lane.specs.declared.Lane.{Lane}
+use Rattle.lane.specs.Gives.{Cycles}
 use Rattle.host.specs.declared.Made.{Made}
 use Rattle.host.specs.declared.Made.the-variants.{Of, Unknown}
 
@@ -62,3 +66,8 @@ wishesNo count sorts values =
 unfoldable pub wishesOf : (count : ℕ) → (sorts values : List ℕ) → List Wish
 wishesOf count sorts values =
     wishesIn (take (looked count) sorts) (take (looked count) values) ++ replicate (64 - looked count) Hold
+
+-- what a cycle with wishes from two arrays gives: the lane's own where they can be made, else their number, zeros and the lane as it was
+pub record CyclesWith (l : Lane) (count : ℕ) (sorts values : List ℕ) (r : Cycled) : Type 0 where
+  pub made : wishesNo count sorts values ≡ 0 → Cycles l count (wishesOf count sorts values) r
+  pub unmade : ¬ (wishesNo count sorts values ≡ 0) → r ≡ record { no = wishesNo count sorts values; word = 0; replaced = 0; gone = 0; lane = l }

@@ -15,20 +15,17 @@ use Rattle.lane.specs.State.{State}
 use Rattle.lane.specs.Safety.{nobody, safeFrom, laneSafe, anyOf, numbered, repeats}
 use Rattle.lane.specs.Wishes.{drives, allMoved, remaining}
 use Rattle.lane.specs.Calls.{badEnd, badLimit, broken, withCarriers, atCycle, startNo, startState, walk, insertAt, gapNo, enterNo, enterState, placeOf, removeAt, namedNo, leaveState, cycleDrives, cycleNo, cycleState}
+use Rattle.lane.specs.Call.{Kept}
 use Rattle.lane.proofs.Passed.{passed}
 use Rattle.lane.proofs.Entering.{insert-length, insert-any, insert-repeats}
 use Rattle.lane.proofs.Leaving.{Thinned, removed-thins, remaining-thins, thinned-length, thinned-any, thinned-repeats, remaining-before}
 use Rattle.lane.proofs.Moving.{moved-length, moved-numbers, moved-repeats, moved-speeds}
 use Rattle.lane.proofs.Order.{thinned-safe, insert-safe}
 use Rattle.lane.proofs.Search.{place-le}
-use Rattle.lane.proofs.Soundness.{Sound, sound}
+use Rattle.lane.proofs.Soundness.{Sound, sound, sound-holds}
 use Rattle.lane.proofs.Surfaces.{SoundRow, sound-row}
 use Rattle.lane.proofs.Tests.{neither}
 use Rattle.lane.proofs.Turns.{moved-safe}
-
-pub record Kept (s : State) : Type 0 where
-  pub sound : Sound s
-  pub counted : s .count ≡ length (s .carriers)
 
 -- carriers that a lane with this row and limit may hold, wherever it ends
 record Allowed (r : Row) (limit : ℕ) (cs : List Carrier) : Type 0 where
@@ -71,8 +68,8 @@ module _ (s : State) (h : Sound s) where
       → Kept (atCycle cycle (withCarriers s cs))
   kept cycle cs a e =
       record {
-        sound =
-            record {
+        unbroken = sound-holds _
+            (record {
               started = h .started;
               surface = h .surface;
               end-least = h .end-least;
@@ -85,7 +82,7 @@ module _ (s : State) (h : Sound s) where
               speeds = a .speeds;
               positions = e;
               safe = a .safe;
-            };
+            });
         counted = refl;
       }
 
@@ -100,8 +97,8 @@ start-keeps s surface end limit cycle e =
     let limits = neither (ltb limit 1) (ltb 8192 limit) (third .0) in
     rw e
     (record {
-      sound =
-          record {
+      unbroken = sound-holds _
+          (record {
             started = refl;
             surface = ltb-false 7 surface (first .0);
             end-least = ltb-false end 1 (ends .0);
@@ -114,7 +111,7 @@ start-keeps s surface end limit cycle e =
             speeds = refl;
             positions = refl;
             safe = refl;
-          };
+          });
       counted = refl;
     })
 

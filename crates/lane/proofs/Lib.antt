@@ -1,6 +1,5 @@
--- `History` is the theorem over every list of calls, `Consequences` what a reader may take from it. Before them stand the laws behind it and
--- behind the functions: lists and places, the rules of a lane, one carrier in a cycle and all of them, the answers of the calls, the marked
--- cases, what a call keeps, the road book.
+-- `Laws`, `CallLaws` and `CycleLaws` are what the crates above may use. Before them stand the laws behind them and behind the functions:
+-- lists and places, the rules of a lane, one carrier in a cycle and all of them, the answers of the calls, the marked cases, what a call keeps.
 mod Lists
 mod Shift
 mod Tests
@@ -25,9 +24,5 @@ mod Order
 mod Turns
 mod Moving
 mod Keeps
-mod Books
-mod CycleRuns
-mod Agreement
-mod Lasting
-pub mod History
-pub mod Consequences
+pub mod CallLaws
+pub mod CycleLaws

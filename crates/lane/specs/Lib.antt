@@ -4,6 +4,5 @@ pub mod Safety
 pub mod Wishes
 pub mod Calls
 pub mod Listing
-pub mod Book
-pub mod Claims
-pub mod History
+pub mod Call
+pub mod Gives

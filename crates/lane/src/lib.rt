@@ -2,12 +2,9 @@
 // `no` is 0 where a call is accepted, else the number of its refusal, with every value zero and the lane as it was handed in.
 ghost use mathlib.Core.Path.{_≡_};
 ghost use mathlib.Core.Bool.{false};
-ghost use lib.Ieee.Exact.{HasValue};
-ghost use lib.ListN.{length, replicate};
-ghost use Prim.Native.Nat.{_<_};
-ghost use Rattle.lane.specs.State.{stateOf};
-ghost use Rattle.lane.specs.Listing.{textNo, textLength, textBytes};
-ghost use Rattle.lane.specs.Calls.{carrier, none, startNo, startState, enterNo, enterPlace, enterState, namedNo, leaveState, namedCarrier, readReading, cycleNo, cycleWord, cycleReplaced, cycleGone, cycleState};
+ghost use lib.ListN.{replicate};
+ghost use Rattle.lane.specs.Calls.{carrier, none};
+ghost use Rattle.lane.specs.Gives.{Starts, Enters, Leaves, Cycles, ReadsOut, Lists};
 
 mod listing;
 mod motion;
@@ -107,9 +104,7 @@ pub fn empty() -> Lane
 }
 
 pub fn start(l: Lane, surface: u32, end: u32, limit: u32, cycle: u64) -> Changed
-    ensures number { λ r. ⌜ r .no ≡ startNo surface end limit ⌝ }
-    ensures state { λ r. ⌜ stateOf (r .lane) ≡ startState (stateOf l) surface end limit cycle ⌝ }
-    ensures refused { λ r. ⌜ (0 < r .no → r .lane ≡ l) ⌝ }
+    ensures { λ r. ⌜ Starts l surface end limit cycle r ⌝ }
 {
     let no = rules::start_refusal(surface, end, limit);
     if no != 0 {
@@ -126,10 +121,7 @@ pub fn start(l: Lane, surface: u32, end: u32, limit: u32, cycle: u64) -> Changed
 }
 
 pub fn enter(l: Lane, number: u16, position: u32, speed: u32) -> Entered
-    ensures number { λ r. ⌜ r .no ≡ enterNo (stateOf l) (carrier number position speed) ⌝ }
-    ensures place { λ r. ⌜ r .place ≡ enterPlace (stateOf l) (carrier number position speed) ⌝ }
-    ensures state { λ r. ⌜ stateOf (r .lane) ≡ enterState (stateOf l) (carrier number position speed) ⌝ }
-    ensures refused { λ r. ⌜ (0 < r .no → r .lane ≡ l) ⌝ }
+    ensures { λ r. ⌜ Enters l (carrier number position speed) r ⌝ }
 {
     let c = Carrier {
         number,
@@ -159,9 +151,7 @@ pub fn enter(l: Lane, number: u16, position: u32, speed: u32) -> Entered
 }
 
 pub fn leave(l: Lane, number: u16) -> Changed
-    ensures number { λ r. ⌜ r .no ≡ namedNo (stateOf l) number ⌝ }
-    ensures state { λ r. ⌜ stateOf (r .lane) ≡ leaveState (stateOf l) number ⌝ }
-    ensures refused { λ r. ⌜ (0 < r .no → r .lane ≡ l) ⌝ }
+    ensures { λ r. ⌜ Leaves l number r ⌝ }
 {
     let k = rules::check_named(l, number);
     let place = k.place;
@@ -179,9 +169,7 @@ pub fn leave(l: Lane, number: u16) -> Changed
 
 // Position and speed of a carrier as doubles. The lane is the host's own and stays as it is.
 pub fn read(l: Lane, number: u16) -> ReadOut
-    ensures number { λ r. ⌜ r .no ≡ namedNo (stateOf l) number ⌝ }
-    ensures reading { λ r. ⌜ r .reading ≡ readReading (stateOf l) number ⌝ }
-    ensures exact { λ r. ⌜ (r .no ≡ 0 → HasValue (r .reading .position) false (namedCarrier (stateOf l) number .position) 2048 × HasValue (r .reading .speed) false (namedCarrier (stateOf l) number .speed) 128) ⌝ }
+    ensures { λ r. ⌜ ReadsOut l number r ⌝ }
 {
     let k = rules::check_named(l, number);
     let place = k.place;
@@ -200,10 +188,7 @@ pub fn read(l: Lane, number: u16) -> ReadOut
 
 // The lane text into a lent buffer, and its length. A buffer of 2,635 bytes holds every text.
 pub fn lane_text(l: Lane, out: &mut [u8]) -> Listed
-    ensures number { λ r. ⌜ r .no ≡ textNo (stateOf l) (now (out .entry)) ⌝ }
-    ensures length { λ r. ⌜ r .length ≡ textLength (stateOf l) (now (out .entry)) ⌝ }
-    ensures bytes { λ r. ⌜ now (out .exit) ≡ textBytes (stateOf l) (now (out .entry)) ⌝ }
-    ensures room { λ r. ⌜ (r .no ≡ 9 → length (now (out .entry)) < 2635) ⌝ }
+    ensures { λ r. ⌜ Lists l (now (out .entry)) r (now (out .exit)) ⌝ }
 {
     if rules::breaks_rule(l) {
         return Listed { no: 21, length: 0 };
@@ -218,12 +203,7 @@ pub fn lane_text(l: Lane, out: &mut [u8]) -> Listed
 
 // One cycle. The first `count` wishes are looked at.
 pub fn cycle(l: Lane, count: usize, wishes: [Wish; 64]) -> Cycled
-    ensures number { λ r. ⌜ r .no ≡ cycleNo (stateOf l) count wishes ⌝ }
-    ensures word { λ r. ⌜ r .word ≡ cycleWord (stateOf l) count wishes ⌝ }
-    ensures replaced { λ r. ⌜ r .replaced ≡ cycleReplaced (stateOf l) count wishes ⌝ }
-    ensures gone { λ r. ⌜ r .gone ≡ cycleGone (stateOf l) count wishes ⌝ }
-    ensures state { λ r. ⌜ stateOf (r .lane) ≡ cycleState (stateOf l) count wishes ⌝ }
-    ensures refused { λ r. ⌜ (0 < r .no → r .lane ≡ l) ⌝ }
+    ensures { λ r. ⌜ Cycles l count wishes r ⌝ }
 {
     let no = rules::check_cycle(l, count);
     if no != 0 {

@@ -61,7 +61,7 @@ returns c =
     let k = c .before .before in
     let a = k .before .args in
     let r = cycle-refused (stateOf (a .l)) (a .count) (a .wishes) (k .check-cycle .result) (k .check-cycle .ensures) (c .before .if1 .taken) in
-    rw (c .refused-cycle .ensures) (r .number, (r .word, (r .replaced, (r .gone, (r .state, λ h. refl)))))
+    rw (c .refused-cycle .ensures) (record { number = r .number; word = r .word; replaced = r .replaced; gone = r .gone; state = r .state; refused = λ h. refl })
 
 row-requires : tie.Need-row-requires
 row-requires c κs = search needs
@@ -83,7 +83,7 @@ returns-2 : tie.Need-returns-2
 returns-2 c =
     let d = c .before .before in
     let r = cycle-outside (s d) (k d .before .args .count) (ws d) (k d .check-cycle .result) (k d .check-cycle .ensures) (passed d) (sym (outside-is d) ∙ c .before .if2 .taken) in
-    rw (c .refused-cycle2 .ensures) (r .number, (r .word, (r .replaced, (r .gone, (r .state, λ h. refl)))))
+    rw (c .refused-cycle2 .ensures) (record { number = r .number; word = r .word; replaced = r .replaced; gone = r .gone; state = r .state; refused = λ h. refl })
 
 add-next : tie.Need-add-next
 add-next c =
@@ -107,22 +107,16 @@ returns-3 c =
     let i = c .before .before .before .before .if2 .left in
     let n = k d .check-cycle .result in
     let e = k d .check-cycle .ensures in
-    let o = sym (outside-is d) ∙ i in (
-      sym (cycle-runs (s d) (k d .before .args .count) (ws d) n e (passed d) o),
-      (
-        word-is d i ∙ run-word (s d) (k d .before .args .count) (ws d) n e (passed d) o,
-        (
-          ap ones (word-is d i) ∙ word-ones (replacedIn (cycleDrives (s d) (ws d))) ∙ run-replaced (s d) (k d .before .args .count) (ws d) n e (passed d) o,
-          (
-            ap₂ _-_ (counted d) (ap (λ (x : State). x .count) (lane-is d i)) ∙ run-gone (s d) (k d .before .args .count) (ws d) n e (passed d) o,
-            (
-              ap (atCycle (s d .cycle + 1)) (lane-is d i) ∙ run-state (s d) (k d .before .args .count) (ws d) n e (passed d) o,
-              λ x. absurd (omega arith),
-            ),
-          ),
-        ),
-      ),
-    )
+    let o = sym (outside-is d) ∙ i in
+    record {
+      number = sym (cycle-runs (s d) (k d .before .args .count) (ws d) n e (passed d) o);
+      word = word-is d i ∙ run-word (s d) (k d .before .args .count) (ws d) n e (passed d) o;
+      replaced =
+          ap ones (word-is d i) ∙ word-ones (replacedIn (cycleDrives (s d) (ws d))) ∙ run-replaced (s d) (k d .before .args .count) (ws d) n e (passed d) o;
+      gone = ap₂ _-_ (counted d) (ap (λ (x : State). x .count) (lane-is d i)) ∙ run-gone (s d) (k d .before .args .count) (ws d) n e (passed d) o;
+      state = ap (atCycle (s d .cycle + 1)) (lane-is d i) ∙ run-state (s d) (k d .before .args .count) (ws d) n e (passed d) o;
+      refused = λ x. absurd (omega arith);
+    }
 
 pub cycle-spec : {M : Type 1} → statement M
 cycle-spec =

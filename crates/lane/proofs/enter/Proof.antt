@@ -46,13 +46,14 @@ check-enter-requires c κs = search needs
 
 returns : tie.Need-returns
 returns c =
-    let k = c .before .before in (
-      k .check-enter .ensures .0,
-      (
-        k .check-enter .ensures .1,
-        (enter-refused (stateOf (k .before .args .l)) (carrier (k .before .args .number) (k .before .args .position) (k .before .args .speed)) (k .check-enter .result .no) (k .check-enter .ensures .0) (c .if1 .taken), λ h. refl),
-      ),
-    )
+    let k = c .before .before in
+    let a = k .before .args in
+    record {
+      number = k .check-enter .ensures .0;
+      place = k .check-enter .ensures .1;
+      state = enter-refused (stateOf (a .l)) (carrier (a .number) (a .position) (a .speed)) (k .check-enter .result .no) (k .check-enter .ensures .0) (c .if1 .taken);
+      refused = λ h. refl;
+    }
 
 inserted-requires : tie.Need-inserted-requires
 inserted-requires c κs = let k = c .before .before .before in (within k (c .before .if1 .left), room k (c .before .if1 .left))
@@ -67,20 +68,18 @@ returns-2 c =
     let a = l k h in
     let place = k .check-enter .result .place in
     let e : place ≡ enterPlace (stateOf a) (newcomer k h) = k .check-enter .ensures .1 in
-    let cs = insertAt place (newcomer k h) (take (a .count) (a .carriers)) in (
-      sym h ∙ accepted k h,
-      (
-        e,
-        (
+    let cs = insertAt place (newcomer k h) (take (a .count) (a .carriers)) in
+    record {
+      number = sym h ∙ accepted k h;
+      place = e;
+      state =
           carriers-are a a (a .count + 1) (c .inserted .result) cs refl
-              (omega (arith, insert-length (newcomer k h) place (take (a .count) (a .carriers)), counted k h))
-              (c .inserted .ensures)
-              ∙ ap (λ (n : ℕ). withCarriers (stateOf a) (insertAt n (newcomer k h) (take (a .count) (a .carriers)))) e
-              ∙ enter-accepted (stateOf a) (newcomer k h) (k .check-enter .result .no) (accepted k h) h,
-          λ x. absurd (omega arith),
-        ),
-      ),
-    )
+          (omega (arith, insert-length (newcomer k h) place (take (a .count) (a .carriers)), counted k h))
+          (c .inserted .ensures)
+          ∙ ap (λ (n : ℕ). withCarriers (stateOf a) (insertAt n (newcomer k h) (take (a .count) (a .carriers)))) e
+          ∙ enter-accepted (stateOf a) (newcomer k h) (k .check-enter .result .no) (accepted k h) h;
+      refused = λ x. absurd (omega arith);
+    }
 
 pub enter-spec : {M : Type 1} → statement M
 enter-spec = tie.close (tie.spec check-enter-requires returns inserted-requires add-next returns-2)

@@ -25,7 +25,7 @@ returns : tie.Need-returns
 returns c =
     let a = c .before .before .before .args in
     let t = text-broken (stateOf (a .l)) (a .out .now) (sym (c .before .breaks-rule .ensures) ∙ c .if1 .taken) in
-    (t .0, (t .1 .0, (t .1 .1, λ e. absurd (omega arith))))
+    record { number = t .0; long = t .1 .0; bytes = t .1 .1; room = λ e. absurd (omega arith) }
 
 text-length-requires : tie.Need-text-length-requires
 text-length-requires c κs = few c
@@ -36,7 +36,7 @@ returns-2 c =
     let passed = c .before .before in
     let a = passed .before .before .before .args in
     let t = text-too-long (stateOf (a .l)) (a .out .now) (unbroken passed) (c .before .text-length .ensures .0) (c .if2 .taken) in
-    (t .0, (t .1 .0, (t .1 .1, λ e. omega (arith, c .before .text-length .ensures .1, c .if2 .taken))))
+    record { number = t .0; long = t .1 .0; bytes = t .1 .1; room = λ e. omega (arith, c .before .text-length .ensures .1, c .if2 .taken) }
 
 put-text-requires : tie.Need-put-text-requires
 put-text-requires c κs =
@@ -53,7 +53,7 @@ returns-3 c =
     let passed = fits .before .before in
     let a = passed .before .before .before .args in
     let t = text-fits (stateOf (a .l)) (a .out .now) (unbroken passed) (fits .before .text-length .ensures .0) (fits .if2 .left) (put .put-text .ensures) in
-    (t .0, (t .1 .0, (t .1 .1, λ e. absurd (omega arith))))
+    record { number = t .0; long = t .1 .0; bytes = t .1 .1; room = λ e. absurd (omega arith) }
 
 pub lane-text-spec : {M : Type 1} → statement M
 lane-text-spec =

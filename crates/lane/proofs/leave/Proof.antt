@@ -22,10 +22,12 @@ check-named-requires c κs = search needs
 
 returns : tie.Need-returns
 returns c =
-    let k = c .before .before in (
-      k .check-named .ensures .0,
-      (leave-refused (stateOf (k .before .args .l)) (k .before .args .number) (k .check-named .result .no) (k .check-named .ensures .0) (c .if1 .taken), λ h. refl),
-    )
+    let k = c .before .before in
+    record {
+      number = k .check-named .ensures .0;
+      state = leave-refused (stateOf (k .before .args .l)) (k .before .args .number) (k .check-named .result .no) (k .check-named .ensures .0) (c .if1 .taken);
+      refused = λ h. refl;
+    }
 
 removed-requires : tie.Need-removed-requires
 removed-requires c κs = let k = c .before .before .before in let p = at k (c .before .if1 .left) in (p .within, p .few)
@@ -42,17 +44,17 @@ returns-2 c =
     let number = k .before .args .number in
     let place = k .check-named .result .place in
     let e : place ≡ namedPlace (stateOf a) number = k .check-named .ensures .1 in
-    let cs = removeAt place (take (a .count) (a .carriers)) in (
-      sym h ∙ k .check-named .ensures .0,
-      (
-        carriers-are a a (a .count - 1) (c .removed .result) cs refl
-            (sym (length-removed place (take (a .count) (a .carriers)) (omega (arith, p .within, p .counted)) ∙ ap (λ (n : ℕ). n - 1) (p .counted)))
-            (c .removed .ensures)
-            ∙ ap (λ (n : ℕ). withCarriers (stateOf a) (removeAt n (take (a .count) (a .carriers)))) e
-            ∙ leave-accepted (stateOf a) number (k .check-named .result .no) (k .check-named .ensures .0) h,
-        λ x. absurd (omega arith),
-      ),
-    )
+    let cs = removeAt place (take (a .count) (a .carriers)) in
+    record {
+      number = sym h ∙ k .check-named .ensures .0;
+      state =
+          carriers-are a a (a .count - 1) (c .removed .result) cs refl
+          (sym (length-removed place (take (a .count) (a .carriers)) (omega (arith, p .within, p .counted)) ∙ ap (λ (n : ℕ). n - 1) (p .counted)))
+          (c .removed .ensures)
+          ∙ ap (λ (n : ℕ). withCarriers (stateOf a) (removeAt n (take (a .count) (a .carriers)))) e
+          ∙ leave-accepted (stateOf a) number (k .check-named .result .no) (k .check-named .ensures .0) h;
+      refused = λ x. absurd (omega arith);
+    }
 
 pub leave-spec : {M : Type 1} → statement M
 leave-spec = tie.close (tie.spec check-named-requires returns removed-requires sub-next returns-2)

@@ -30,13 +30,13 @@ reading-of-requires c κs = search needs
 returns : tie.Need-returns
 returns c =
     let k = c .before .before .before in
-    let a = k .before .args in (
-      k .check-named .ensures .0,
-      (
-        c .reading-of .ensures .0 ∙ read-refused (stateOf (a .t1)) (a .number) (k .check-named .result .no) (k .check-named .ensures .0) (c .before .if1 .taken),
-        λ e. absurd (c .before .if1 .taken e),
-      ),
-    )
+    let a = k .before .args in
+    record {
+      number = k .check-named .ensures .0;
+      reading =
+          c .reading-of .ensures .0 ∙ read-refused (stateOf (a .t1)) (a .number) (k .check-named .result .no) (k .check-named .ensures .0) (c .before .if1 .taken);
+      exact = λ e. absurd (c .before .if1 .taken e);
+    }
 
 mul-c : tie.Need-mul-c
 mul-c c = let p = at (c .before .before) (c .if1 .left) in omega (arith, p .within, p .few)
@@ -56,15 +56,15 @@ returns-2 c =
     let named : getD (a .t1 .carriers) place none ≡ namedCarrier (stateOf (a .t1)) (a .number) =
     sym (getD-take (a .t1 .count) (a .t1 .carriers) place none (at k h .within))
     ∙ ap (λ (n : ℕ). getD (take (a .t1 .count) (a .t1 .carriers)) n none) (k .check-named .ensures .1 ∙ named-place (stateOf (a .t1)) (a .number) (k .check-named .result .no) (k .check-named .ensures .0) h)
-    in (
-      sym h ∙ k .check-named .ensures .0,
-      (
-        c .reading-of2 .ensures .0
-            ∙ ap (λ (x : Carrier). readingOf (x .position) (x .speed)) named
-            ∙ read-accepted (stateOf (a .t1)) (a .number) (k .check-named .result .no) (k .check-named .ensures .0) h,
-        λ e. subst (λ (x : Carrier). HasValue (c .reading-of2 .result .position) false (x .position) 2048 × HasValue (c .reading-of2 .result .speed) false (x .speed) 128) named (c .reading-of2 .ensures .1),
-      ),
-    )
+    in
+    record {
+      number = sym h ∙ k .check-named .ensures .0;
+      reading =
+          c .reading-of2 .ensures .0
+          ∙ ap (λ (x : Carrier). readingOf (x .position) (x .speed)) named
+          ∙ read-accepted (stateOf (a .t1)) (a .number) (k .check-named .result .no) (k .check-named .ensures .0) h;
+      exact = λ e. subst (λ (x : Carrier). HasValue (c .reading-of2 .result .position) false (x .position) 2048 × HasValue (c .reading-of2 .result .speed) false (x .speed) 128) named (c .reading-of2 .ensures .1);
+    }
 
 pub read-spec : {M : Type 1} → statement M
 read-spec =

@@ -13,19 +13,24 @@ start-refusal-requires c κs = search needs
 returns : tie.Need-returns
 returns c =
     let k = c .before in
-    let a = k .before .args in (
-      k .start-refusal .ensures,
-      (start-refused (stateOf (a .l)) (a .surface) (a .end) (a .limit) (a .cycle) (k .start-refusal .result) (k .start-refusal .ensures) (c .if1 .taken), λ h. refl),
-    )
+    let a = k .before .args in
+    let e = k .start-refusal .ensures in
+    record {
+      number = e;
+      state = start-refused (stateOf (a .l)) (a .surface) (a .end) (a .limit) (a .cycle) (k .start-refusal .result) e (c .if1 .taken);
+      refused = λ h. refl;
+    }
 
 returns-2 : tie.Need-returns-2
 returns-2 c =
     let k = c .before in
     let a = k .before .args in
-    let e = k .start-refusal .ensures in (
-      sym (c .if1 .left) ∙ e,
-      (start-accepted (stateOf (a .l)) (a .surface) (a .end) (a .limit) (a .cycle) (k .start-refusal .result) e (c .if1 .left), λ h. absurd (omega arith)),
-    )
+    let e = k .start-refusal .ensures in
+    record {
+      number = sym (c .if1 .left) ∙ e;
+      state = start-accepted (stateOf (a .l)) (a .surface) (a .end) (a .limit) (a .cycle) (k .start-refusal .result) e (c .if1 .left);
+      refused = λ h. absurd (omega arith);
+    }
 
 pub start-spec : {M : Type 1} → statement M
 start-spec = tie.close (tie.spec start-refusal-requires returns returns-2)

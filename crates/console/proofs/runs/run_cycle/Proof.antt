@@ -38,18 +38,18 @@ gone-fits c = omega arith
 numbered : (c : tie.After-cycle) → c .cycle .result .no ≡ blockNo (state c) (block c)
 numbered c =
     let s = c .before .before in
-    c .cycle .ensures .0 ∙ cycle-number (state c) (s .args .count) (s .args .wishes) (counted s) (s .pre .1 .1)
+    c .cycle .ensures .number ∙ cycle-number (state c) (s .args .count) (s .args .wishes) (counted s) (s .pre .1 .1)
 
 prints : (c : tie.After-cycle) → accepted (state c) (block c) ≡ text c
 prints c =
     let s = c .before .before in
     cycle-accepted (state c) (s .args .count) (s .args .wishes) (counted s) (s .pre .1 .1)
-    ∙ rw (← c .cycle .ensures .1 .0, ← c .cycle .ensures .1 .1 .1 .0) refl
+    ∙ rw (← c .cycle .ensures .word, ← c .cycle .ensures .gone) refl
 
 after : (c : tie.After-cycle) → stateOf (c .cycle .result .lane) ≡ stateAfter (state c) (block c)
 after c =
     let s = c .before .before in
-    c .cycle .ensures .1 .1 .1 .1 .0 ∙ cycle-after (state c) (s .args .count) (s .args .wishes) (counted s) (s .pre .1 .1)
+    c .cycle .ensures .state ∙ cycle-after (state c) (s .args .count) (s .args .wishes) (counted s) (s .pre .1 .1)
 
 cycle-requires : tie.Need-cycle-requires
 cycle-requires c κs = search needs
@@ -65,7 +65,7 @@ returns c =
     let told = c .before .before in
     let then = told .before .before in
     let call = then .before .before .before in
-    run-refused (call .before .before .args .l) (block call) (numbered call) (after call) (call .cycle .ensures .1 .1 .1 .1 .1) (then .if1 .taken)
+    run-refused (call .before .before .args .l) (block call) (numbered call) (after call) (call .cycle .ensures .refused) (then .if1 .taken)
     (told .refused .ensures)
 
 slice-aggregate-put-bytes : tie.Need-slice-aggregate-put-bytes
@@ -105,7 +105,7 @@ returns-2 c =
     let long = length-cycled (call .cycle .result .word) (call .cycle .result .gone) (gone-fits call) in
     let room : length (text call) ≤ length (a .out .now) = omega arith in
     let shorter : length (ascii "ok=cycle\n" ++ over) ≤ length (a .out .now) = omega (arith, length-append (ascii "ok=cycle\n" ++ over) gone) in
-    run-accepted (a .l) (block call) (numbered call) (after call) (call .cycle .ensures .1 .1 .1 .1 .1) (else .if1 .left) (text call) (prints call)
+    run-accepted (a .l) (block call) (numbered call) (after call) (call .cycle .ensures .refused) (else .if1 .left) (text call) (prints call)
     (gives-put (call .cycle .result .lane) (a .next) false (text call) room
     (put-both 0 (ascii "ok=cycle\n" ++ over) gone (a .out .now) (omega (arith, room))
     (put-both 0 (ascii "ok=cycle\n") over (a .out .now) (omega (arith, shorter)) (first .put-bytes .ensures) (second .put-hexadecimal-line .ensures))

@@ -25,7 +25,7 @@ text c = ascii "ok=enter\n" ++ line (ascii "place=") (decimal (c .enter .result 
 
 prints : (c : tie.After-enter) → accepted (stateOf (c .before .before .args .l)) (block c) ≡ text c
 unfolding accepted
-prints c = ap (λ (p : ℕ). (ascii "ok=enter\n") ++ line (ascii "place=") (decimal p)) (sym (c .enter .ensures .1 .0))
+prints c = ap (λ (p : ℕ). (ascii "ok=enter\n") ++ line (ascii "place=") (decimal p)) (sym (c .enter .ensures .place))
 
 enter-requires : tie.Need-enter-requires
 enter-requires c κs = search needs
@@ -43,7 +43,7 @@ returns c =
     let then = told .before .before in
     let call = then .before .before .before in
     let e = call .enter .ensures in
-    run-refused (call .before .before .args .l) (block call) (e .0) (e .1 .1 .0) (e .1 .1 .1) (then .if1 .taken) (told .refused .ensures)
+    run-refused (call .before .before .args .l) (block call) (e .number) (e .state) (e .refused) (then .if1 .taken) (told .refused .ensures)
 
 slice-aggregate-put-bytes : tie.Need-slice-aggregate-put-bytes
 slice-aggregate-put-bytes c = search needs
@@ -72,7 +72,7 @@ returns-2 c =
     let room : length (text call) ≤ length (a .out .now) =
     omega (arith, length-append (ascii "ok=enter\n") place, short-line (ascii "place=") (call .enter .result .place) (omega arith) (search needs)) in
     let e = call .enter .ensures in
-    run-accepted (a .l) (block call) (e .0) (e .1 .1 .0) (e .1 .1 .1) (else .if1 .left) (text call) (prints call)
+    run-accepted (a .l) (block call) (e .number) (e .state) (e .refused) (else .if1 .left) (text call) (prints call)
     (gives-put (call .enter .result .lane) (a .next) false (text call) room
     (put-both 0 (ascii "ok=enter\n") place (a .out .now) (omega (arith, room)) (first .put-bytes .ensures) (second .put-decimal-line .ensures)))
 

@@ -26,7 +26,7 @@ returns c =
     let call = told .before .before .before in
     let a = call .before .before .args in
     let e = call .leave .ensures in
-    run-answered (a .l) (leave-block (a .car)) (e .0) (e .1 .0) (e .1 .1) _ (rw (← e .0) refl) (told .answered .ensures)
+    run-answered (a .l) (leave-block (a .car)) (e .number) (e .state) (e .refused) _ (rw (← e .number) refl) (told .answered .ensures)
 
 pub run-leave-spec : {M : Type 1} → statement M
 run-leave-spec =

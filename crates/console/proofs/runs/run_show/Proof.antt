@@ -24,7 +24,7 @@ numbered : (c : tie.After-lane-text) → c .lane-text .result .no ≡ blockNo (s
 unfolding blockNo
 numbered c =
     let e = c .lane-text .ensures in
-    show-number (state c) (start c .args .out .now) (start c .pre) _ (e .0) (e .1 .1 .1)
+    show-number (state c) (start c .args .out .now) (start c .pre) _ (e .number) (e .room)
 
 sub-lane-text : tie.Need-sub-lane-text
 sub-lane-text c = search needs
@@ -52,7 +52,7 @@ returns c =
     let call = then .before .before .before .before in
     let s = start call in
     run-refused (s .args .l) show-block (numbered call) refl (λ h. refl) (then .if1 .taken)
-    (gives-into (show-refused (state call) (s .args .out .now) (s .pre) _ (call .lane-text .ensures .0) (then .if1 .taken) (call .lane-text .ensures .1 .1 .0)) (told .refused .ensures))
+    (gives-into (show-refused (state call) (s .args .out .now) (s .pre) _ (call .lane-text .ensures .number) (then .if1 .taken) (call .lane-text .ensures .bytes)) (told .refused .ensures))
 
 slice-aggregate-put-bytes : tie.Need-slice-aggregate-put-bytes
 slice-aggregate-put-bytes c = search needs
@@ -69,9 +69,9 @@ add-t8 c =
     let e = call .lane-text .ensures in
     omega (
       arith,
-      show-place (state call) (s .args .out .now) (s .pre) _ (e .0) (else .if1 .left) (e .1 .1 .0) (put .put-bytes .ensures .1),
-      show-length (state call) (s .args .out .now) (s .pre) _ (e .0) (else .if1 .left) (e .1 .0),
-      fits (state call) (s .args .out .now) (s .pre) _ (e .0) (else .if1 .left),
+      show-place (state call) (s .args .out .now) (s .pre) _ (e .number) (else .if1 .left) (e .bytes) (put .put-bytes .ensures .1),
+      show-length (state call) (s .args .out .now) (s .pre) _ (e .number) (else .if1 .left) (e .long),
+      fits (state call) (s .args .out .now) (s .pre) _ (e .number) (else .if1 .left),
     )
 
 same-length-2 : tie.Need-same-length-2
@@ -87,8 +87,8 @@ returns-2 c =
     let e = call .lane-text .ensures in
     let text = ascii "ok=show\n" ++ laneText (state call) in
     run-accepted (s .args .l) show-block (numbered call) refl (λ h. refl) (else .if1 .left) text refl
-    (gives-put (s .args .l) (s .args .next) false text (show-room (state call) (s .args .out .now) (s .pre) _ (e .0) (else .if1 .left))
-    (show-put (state call) (s .args .out .now) (s .pre) _ (e .0) (else .if1 .left) (e .1 .1 .0) (e .1 .0) (put .put-bytes .ensures)))
+    (gives-put (s .args .l) (s .args .next) false text (show-room (state call) (s .args .out .now) (s .pre) _ (e .number) (else .if1 .left))
+    (show-put (state call) (s .args .out .now) (s .pre) _ (e .number) (else .if1 .left) (e .bytes) (e .long) (put .put-bytes .ensures)))
 
 pub run-show-spec : {M : Type 1} → statement M
 run-show-spec =

@@ -26,7 +26,7 @@ returns c =
     let call = told .before .before .before in
     let a = call .before .before .args in
     let e = call .start .ensures in
-    run-answered (a .l) (start-block (a .surface) (a .end) (a .limit) (a .cycle)) (e .0) (e .1 .0) (e .1 .1) _ (rw (← e .0) refl) (told .answered .ensures)
+    run-answered (a .l) (start-block (a .surface) (a .end) (a .limit) (a .cycle)) (e .number) (e .state) (e .refused) _ (rw (← e .number) refl) (told .answered .ensures)
 
 pub run-start-spec : {M : Type 1} → statement M
 run-start-spec =

@@ -1,5 +1,5 @@
 -- What a reader may take from `history`: at each call of the list, and in plain words; and that a lane once started never breaks a rule.
-use mathlib.Core.Path.{_≡_, refl, sym, subst}
+use mathlib.Core.Path.{_≡_, refl, sym, _∙_, subst}
 use mathlib.Core.Bool.{Bool, true, false, _||_, true≢false}
 use mathlib.Core.List.{List, [], _∷_, _++_}
 use Prim.Native.Nat.{ℕ, _≤_, _<_}
@@ -9,14 +9,16 @@ use lib.Dec.{ltb}
 use lib.ListN.{length}
 use lib.Signed.{<ℤ-irrefl}
 use Rattle.wish.specs.declared.Wish.{Wish}
 use Rattle.lane.specs.declared.Lane.{Lane}
 use Rattle.lane.specs.State.{stateOf}
-use Rattle.lane.specs.Book.{cycle-call, Seen, Book, booked}
-use Rattle.lane.specs.Claims.{carrierAt, placeAt, Claims}
-use Rattle.lane.specs.History.{laneAfter, numberOf, wordIn, Entry, seen, Throughout, startsLane, NeverBroken}
-use Rattle.lane.proofs.Keeps.{Kept}
-use Rattle.lane.proofs.Lasting.{goes-on, not-broken}
-use Rattle.lane.proofs.History.{Ran, none-yet, then, answered}
+use Rattle.lane.specs.Call.{cycle-call, Kept}
+use Rattle.lane.specs.Gives.{laneAfter, numberOf}
+use Rattle.lane.proofs.CallLaws.{kept-not-21}
+use Rattle.history.specs.Book.{Seen, Book, booked}
+use Rattle.history.specs.Claims.{carrierAt, placeAt, Claims}
+use Rattle.history.specs.History.{Entry, seen, Ran, none-yet, then, Throughout, startsLane, NeverBroken}
+use Rattle.history.proofs.Lasting.{goes-on}
+use Rattle.history.proofs.History.{answered}
 
 -- the lane and the book after the first calls
 abbrev pub laneOn : Lane → List Entry → Lane
@@ -56,10 +58,9 @@ lasting : {l d : Lane} {es : List Entry} (started : Bool) → (started ≡ true 
 lasting started h none-yet = tt
 lasting {l} started h (then {e = e} d r) =
     let a = answered (e .call) l (e .reply) d in
-    let n = numberOf (e .call) (e .reply) in
-    let word = wordIn (e .call) (e .reply) in (
-      λ q. not-broken (e .call) (stateOf l) n word (a .0) (h q),
-      lasting (started || startsLane e) (λ q. subst Kept (sym (a .1)) (goes-on (e .call) (stateOf l) n word (a .0) started h q)) r,
+    let n = numberOf (e .call) (e .reply) in (
+      λ q z. kept-not-21 (e .call) (stateOf l) (h q) (sym (a .0 .number) ∙ z),
+      lasting (started || startsLane e) (λ q. subst Kept (sym (a .1)) (goes-on (e .call) (stateOf l) n (a .0 .number) started h q)) r,
     )
 
 -- from any lane at all: once a start was accepted no call gives 21

@@ -11,18 +11,10 @@ use Rattle.wish.specs.Trimming.{trimmedTo}
 use Rattle.wish.specs.declared.Converted.{Converted}
 use Rattle.wish.specs.declared.Converted.the-variants.{Units, Outside}
 use Rattle.wish.specs.declared.Wish.{Wish}
 use Rattle.lane.specs.declared.Carrier.{Carrier}
 use Rattle.lane.specs.declared.Lane.{Lane}
 use Rattle.lane.specs.Surface.{rowOf}
-
--- a call with its arguments, but for the lane; of the lane text, the bytes of the lent buffer before the call
-pub data Call : Type 0 where
-  start-call : (surface end limit cycle : ℕ) → Call
-  enter-call : (number position speed : ℕ) → Call
-  leave-call : (number : ℕ) → Call
-  cycle-call : (count : ℕ) → (wishes : List Wish) → Call
-  read-call : (number : ℕ) → Call
-  text-call : (buffer : List ℕ) → Call
+use Rattle.lane.specs.Call.{Call, start-call, enter-call, leave-call, cycle-call, read-call, text-call}
 
 -- "It is fed with each call with its arguments and, of the answers, only whether the call was refused and a cycle's word."
 pub record Seen : Type 0 where

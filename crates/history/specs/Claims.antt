@@ -11,12 +11,13 @@ use Rattle.headway.specs.Motion.{positionAt}
 use Rattle.headway.specs.Wishes.{restsBehind}
 use Rattle.wish.specs.declared.Wish.{Wish}
 use Rattle.wish.specs.declared.Wish.the-variants.{Hold}
 use Rattle.lane.specs.declared.Carrier.{Carrier}
 use Rattle.lane.specs.declared.Lane.{Lane}
 use Rattle.lane.specs.Surface.{rowOf}
 use Rattle.lane.specs.State.{stateOf}
 use Rattle.lane.specs.Calls.{none}
-use Rattle.lane.specs.Book.{Call, start-call, enter-call, leave-call, cycle-call, read-call, text-call, Seen, Book, trimmedIn, drivenIn, booked}
+use Rattle.lane.specs.Call.{Call, start-call, enter-call, leave-call, cycle-call, read-call, text-call}
+use Rattle.history.specs.Book.{Seen, Book, trimmedIn, drivenIn, booked}
 
 -- the carrier at a place: "Ahead means nearer the book's front; next ahead, the place just before."
 abbrev pub carrierAt : Book → ℕ → Carrier
