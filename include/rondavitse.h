@@ -1,15 +1,20 @@
 /* Rondavitse: a supervisor for a lane of self-driving container carriers.
  *
- * A lane is a struct that goes in by value and comes back beside the answer. `no` is 0 where a call is accepted; else it is the number
- * of its refusal, every value beside it is zero, and the lane returned is the one handed in. Every function may be called with any
- * numbers and any lane; a pointer must be to as many elements as the length beside it says and never null, and a buffer must not
- * overlap what else is lent in the call. Positions count 1/2048 m, speeds 1/128 m/s, accelerations 1/16 m/s²; a cycle is 1/8 s.
+ * A lane is a struct of the host's own: each call is lent it and changes it in place. `no` is 0 where a call is accepted; else it is the
+ * number of its refusal, every value beside it is zero, and every word of the lane and every lent byte is as before. Positions count
+ * 1/2048 m, speeds 1/128 m/s, accelerations 1/16 m/s²; a cycle is 1/8 s.
  *
- * Refusals: 1 surface above 7; 2 lane end outside 1 to 2^31; 3 limit outside 1 to 8192; 4 carrier number 0; 5 position at or past the
- * end; 6 speed above the limit; 7 a float outside its range; 8 malformed text; 9 lane text longer than the buffer; 10 program input
- * above 65,536 bytes; 11 a wish of no sort that exists, or units past 16 bits; 12 an array of wishes shorter than both the count and
- * 64; 21 never started, or the lane handed in breaks a rule; 22 64 carriers present; 23 number present; 24 number absent; 25 not safe
- * behind the carrier ahead; 26 the carrier behind not safe; 27 count differs from the carriers present; 28 cycle number is 2^64 - 1.
+ * Any words may stand in the lane and any numbers may be given. The host sees to the pointers:
+ * - `lane` points to a whole lane, aligned as the struct is, that nobody else uses during the call; others may read one that is const;
+ * - any other pointer is to as many elements as the length beside it says, and never null;
+ * - a buffer to write to overlaps neither the lane nor what else is lent in the call.
+ * What is promised of a lane over many calls holds if each call gets it as the one before has left it.
+ *
+ * Refusals: 1 surface above 7; 2 lane end outside 1 to 2^31; 3 limit outside 1 to 8,192; 4 carrier number outside 1 to 65,535; 5 position
+ * at or past the end; 6 speed above the limit; 7 a float outside its range; 8 malformed text; 9 lane text longer than the buffer;
+ * 10 program input above 65,536 bytes; 11 a wish of no sort that exists, or units past 16 bits; 12 an array of wishes shorter than the
+ * count; 21 never started, or the lane breaks a rule; 22 64 carriers present; 23 number present; 24 number absent; 25 not safe behind the
+ * carrier ahead; 26 the carrier behind not safe; 27 count differs from the carriers present; 28 cycle number is 2^64 - 1.
  */
 #ifndef RONDAVITSE_H
 #define RONDAVITSE_H
@@ -22,103 +27,119 @@
 extern "C" {
 #endif
 
+#define RONDAVITSE_LAST_SURFACE 7
+#define RONDAVITSE_FARTHEST_END UINT64_C(2147483648)
+#define RONDAVITSE_FASTEST 8192         /* the highest speed limit */
+#define RONDAVITSE_HIGHEST_NUMBER 65535 /* of a carrier; the lowest is 1 */
 #define RONDAVITSE_MOST_CARRIERS 64
+#define RONDAVITSE_LAST_CYCLE UINT64_MAX /* the cycle number after which no cycle is run */
+#define RONDAVITSE_LONGEST_TEXT 2248     /* bytes: a buffer that holds every lane text */
+#define RONDAVITSE_ANSWER_BUFFER 4096    /* bytes: the least buffer of a step */
 
-typedef struct {
-    uint16_t number; /* 1 to 65,535 */
-    uint32_t position;
-    uint32_t speed;
+typedef struct rondavitse_road {
+    uint64_t surface; /* code */
+    uint64_t end;
+    uint64_t limit;
+} rondavitse_road;
+
+typedef struct rondavitse_carrier {
+    uint64_t number;
+    uint64_t position;
+    uint64_t speed;
 } rondavitse_carrier;
 
-/* The first `count` records are the carriers, front to back; what the records past them hold is free. */
-typedef struct {
-    bool started;
-    uint32_t surface;
-    uint32_t end;
-    uint32_t limit;
-    uint64_t cycle;
-    size_t count;
-    rondavitse_carrier carriers[RONDAVITSE_MOST_CARRIERS];
+/* A carrier as it stands in the lane. */
+typedef struct rondavitse_record {
+    uint64_t number;
+    uint64_t position;
+    uint64_t speed;
+    uint64_t free[5];
+} rondavitse_record;
+
+/* The first `count` records are the carriers, front to back. No call's answer depends on a word called free, nor on the records past the
+ * carriers; a call that is accepted may leave anything there. */
+typedef struct rondavitse_lane {
+    uint64_t started; /* 1; any other word counts as never started */
+    uint64_t surface;
+    uint64_t end;
+    uint64_t limit;
+    uint64_t cycle; /* the cycle number */
+    uint64_t count;
+    uint64_t free_figures[2];
+    uint64_t free_tables[2][8][8];
+    uint64_t free_slots[RONDAVITSE_MOST_CARRIERS];
+    rondavitse_record records[RONDAVITSE_MOST_CARRIERS];
 } rondavitse_lane;
 
-typedef struct {
+typedef struct rondavitse_entered {
     uint32_t no;
-    rondavitse_lane lane;
-} rondavitse_changed;
-
-typedef struct {
-    uint32_t no;
-    size_t place;
-    rondavitse_lane lane;
+    size_t place; /* from 0 at the front */
 } rondavitse_entered;
 
-typedef struct {
+typedef struct rondavitse_cycled {
     uint32_t no;
     uint64_t word;     /* bit i: the wish of place i, as before the cycle, was replaced by guaranteed braking */
     uint32_t replaced; /* how many were */
     uint32_t gone;     /* carriers at or past the lane end, which are no longer on the lane */
-    rondavitse_lane lane;
 } rondavitse_cycled;
 
-typedef struct {
+typedef struct rondavitse_reading {
     double position; /* metres, exact */
     double speed;    /* m/s, exact */
 } rondavitse_reading;
 
-typedef struct {
+typedef struct rondavitse_read_out {
     uint32_t no;
     rondavitse_reading reading;
 } rondavitse_read_out;
 
-typedef struct {
+typedef struct rondavitse_listed {
     uint32_t no;
     size_t length;
 } rondavitse_listed;
 
-typedef struct {
-    rondavitse_lane lane;
+typedef struct rondavitse_stepped {
     size_t next;    /* the place after the block; where stop is set, the place handed in */
     size_t written; /* the bytes put at the buffer's start */
     bool stop;      /* nothing is left to run: the input has ended, its next block is malformed, or the buffer is too short */
 } rondavitse_stepped;
 
-/* An empty lane that was never started: start it before anything else. */
-rondavitse_lane rondavitse_empty(void);
+/* Makes an empty lane that was never started, whatever was there: every word becomes 0. */
+void rondavitse_empty(rondavitse_lane *lane);
 
-/* Takes the figures and empties the lane. Checks in order: 1, 2, 3. */
-rondavitse_changed rondavitse_start(rondavitse_lane lane, uint32_t surface, uint32_t end, uint32_t limit, uint64_t cycle);
+/* Takes the road and the first cycle number and empties the lane, whatever it held; gives `no`. Checks in order: 1, 2, 3. */
+uint32_t rondavitse_start(rondavitse_lane *lane, rondavitse_road road, uint64_t first);
 
-/* A carrier goes in at the place found, if both neighbours stay safe. Checks: 21, 4, 5, 6, 22, 23, 25, 26. */
-rondavitse_entered rondavitse_enter(rondavitse_lane lane, uint16_t number, uint32_t position, uint32_t speed);
+/* The carrier goes in at the place found, if it and the one behind it are safe there. Checks: 21, 4, 5, 6, 22, 23, 25, 26. */
+rondavitse_entered rondavitse_enter(rondavitse_lane *lane, rondavitse_carrier carrier);
 
-/* The carrier named comes out. Checks: 21, 4, 24. */
-rondavitse_changed rondavitse_leave(rondavitse_lane lane, uint16_t number);
+/* The carrier named comes out; gives `no`. Checks: 21, 4, 24. */
+uint32_t rondavitse_leave(rondavitse_lane *lane, uint64_t number);
 
 /* Sorts of wishes, and what their value is. */
 enum {
     RONDAVITSE_UNITS = 0,        /* whole units of 16 bits, signed: (uint32_t)(int32_t)units */
     RONDAVITSE_ACCELERATION = 1, /* m/s², -16 to 16: the float's bits */
     RONDAVITSE_TARGET_SPEED = 2, /* m/s, 0 to 64: the float's bits */
-    RONDAVITSE_HOLD = 3          /* nothing */
+    RONDAVITSE_HOLD = 3          /* anything */
 };
 
-/* One cycle: a wish of place i is of sort sorts[i] with values[i]. A wish stands, or guaranteed braking is put in its place.
- * Checks: 12, 11, 21, 27, 28, 7. */
-rondavitse_cycled rondavitse_cycle(rondavitse_lane lane, size_t count, const uint8_t *sorts, size_t sorts_length,
+/* One cycle: the wish of place i is of sort sorts[i] with values[i], and the first `count` are looked at. A wish stands, or guaranteed
+ * braking is put in its place. Checks: 21, 27, 28, 12, 11, 7. */
+rondavitse_cycled rondavitse_cycle(rondavitse_lane *lane, size_t count, const uint8_t *sorts, size_t sorts_length,
                                    const uint32_t *values, size_t values_length);
 
-/* Where a carrier is. Checks: 21, 4, 24. */
-rondavitse_read_out rondavitse_read(rondavitse_lane lane, uint16_t number);
+/* Where a carrier is and how fast. Checks: 21, 4, 24. */
+rondavitse_read_out rondavitse_read(const rondavitse_lane *lane, uint64_t number);
 
-/* The lane as lines of text at the buffer's start; bytes after the text, and all bytes after a refusal, stay as they were.
- * Checks: 21, 9. A buffer of 2,635 bytes holds every text. */
-rondavitse_listed rondavitse_lane_text(rondavitse_lane lane, uint8_t *out, size_t out_length);
+/* The lane as lines of text at the buffer's start; bytes after the text stay as they were. Checks: 21, 9. */
+rondavitse_listed rondavitse_lane_text(const rondavitse_lane *lane, uint8_t *out, size_t out_length);
 
-/* One block of call texts, read at a place of the input and run on the lane; its answer is put at the buffer's start, and the bytes after
- * it stay as they were. A refused block's answer is `no=` and its number, 8 for a malformed one. A buffer below 4,096 bytes is left alone,
- * and nothing is run. The lane returned is then, as after a refused block, the one handed in. The input's length is not looked at: 10 is
- * the program's alone. */
-rondavitse_stepped rondavitse_step(rondavitse_lane lane, const uint8_t *input, size_t input_length, size_t at, uint8_t *out,
+/* One block of call texts, read at the place `at` of the input and run on the lane; its answer is put at the buffer's start, and the bytes
+ * after it stay as they were. A refused block's answer is `no=` and its number, 8 for a malformed one. A buffer shorter than
+ * RONDAVITSE_ANSWER_BUFFER is left alone, and nothing is run. After a refused block, and where nothing is run, every word of the lane is as
+ * before. The input's length is not looked at: 10 is the program's alone. */
+rondavitse_stepped rondavitse_step(rondavitse_lane *lane, const uint8_t *input, size_t input_length, size_t at, uint8_t *out,
                                    size_t out_length);
 
 #ifdef __cplusplus

@@ -1,68 +1,74 @@
 //! What is compared by cost must do the same.
 
-use crate::library;
-use crate::sample::Sample;
-use lane_reference::{Carrier, Supervisor};
-use rondavitse::binding;
+use crate::call::Call;
+use crate::sample::{carrier, road, Sample};
+use crate::{library, reference};
+use lane_reference::Refusal;
 
-/// Panics unless both sides answer every call alike.
+/// Panics unless both sides accept every call, answer it alike and leave the
+/// same lane.
 pub fn check(sample: &mut Sample) {
-    check_start(sample);
-    check_enter_and_leave(sample);
-    check_cycle(sample);
-    check_read(sample);
-    check_lane_text(sample);
+    for call in Call::ALL {
+        sample.restore(call);
+        sample.text.fill(0);
+        let ours = (by_library(call, sample), sample.text);
+        sample.text.fill(0);
+        let values = by_reference(call, sample).expect("an accepted call");
+        assert_eq!(ours, ((0, values), sample.text), "{}", call.name());
+        lanes_agree(call, sample);
+    }
 }
 
-fn check_start(sample: &Sample) {
-    let started = library::start(sample);
-    assert_eq!((started.no, started.lane.count), (0, 0), "start");
-    assert_eq!(started.lane.cycle, sample.reference.0.cycle, "start");
+/// The number and the values of an answer, doubles by their bits.
+fn by_library(call: Call, sample: &mut Sample) -> (u32, Vec<u64>) {
+    match call {
+        Call::Start => (library::start(sample), vec![]),
+        Call::Enter => {
+            let answer = library::enter(sample);
+            (answer.no, vec![answer.place as u64])
+        }
+        Call::Leave => (library::leave(sample), vec![]),
+        Call::Cycle => {
+            let answer = library::cycle(sample);
+            let counts = [answer.replaced, answer.gone].map(u64::from);
+            (answer.no, vec![answer.word, counts[0], counts[1]])
+        }
+        Call::Read => {
+            let answer = library::read(sample);
+            let figures = [answer.reading.position, answer.reading.speed];
+            (answer.no, figures.map(f64::to_bits).to_vec())
+        }
+        Call::LaneText => {
+            let answer = library::lane_text(sample);
+            (answer.no, vec![answer.length as u64])
+        }
+    }
 }
 
-fn check_enter_and_leave(sample: &Sample) {
-    let entered = library::enter(sample);
-    assert_eq!(entered.no, 0, "enter");
-    assert_eq!(carriers(&entered.lane), sample.reference.0.present());
-    let left = library::leave(sample);
-    assert_eq!(left.no, 0, "leave");
-    assert_eq!(carriers(&left.lane), sample.reference_before.0.present());
+fn by_reference(call: Call, sample: &mut Sample) -> Result<Vec<u64>, Refusal> {
+    Ok(match call {
+        Call::Start => reference::start(sample).map(|()| vec![])?,
+        Call::Enter => vec![reference::enter(sample)? as u64],
+        Call::Leave => reference::leave(sample).map(|()| vec![])?,
+        Call::Cycle => {
+            let cycled = reference::cycle(sample)?;
+            vec![cycled.word, cycled.replaced.into(), cycled.gone.into()]
+        }
+        Call::Read => {
+            let reading = reference::read(sample)?;
+            [reading.position, reading.speed].map(f64::to_bits).to_vec()
+        }
+        Call::LaneText => vec![reference::lane_text(sample)? as u64],
+    })
 }
 
-fn check_cycle(sample: &Sample) {
-    let mut lane = sample.reference;
-    let driven = lane.cycle(lane.0.count, &sample.wishes).expect("a cycle");
-    let cycled = library::cycle(sample);
-    assert_eq!((cycled.no, cycled.word), (0, driven.word), "cycle");
-    assert_eq!(carriers(&cycled.lane), lane.0.present(), "cycle");
-}
-
-fn check_read(sample: &Sample) {
-    let expected = sample.reference.read(sample.visitor.number);
-    let expected = expected.expect("a carrier that is present");
-    let answer = library::read(sample);
-    let reading = (answer.reading.position, answer.reading.speed);
-    assert_eq!(answer.no, 0, "read");
-    assert_eq!(reading, (expected.position, expected.speed), "read");
-}
-
-fn check_lane_text(sample: &mut Sample) {
-    let length = sample.reference.lane_text(&mut sample.text);
-    let length = length.expect("room for any text");
-    let expected = sample.text[..length].to_vec();
-    sample.text.fill(0);
-    let listed = library::lane_text(sample);
-    assert_eq!((listed.no, listed.length), (0, length), "lane text");
-    assert_eq!(sample.text[..length], expected, "lane text");
-}
-
-fn carriers(lane: &binding::Lane) -> Vec<Carrier> {
-    let present = lane.carriers[..lane.count].iter();
-    present
-        .map(|carrier| Carrier {
-            number: carrier.number,
-            position: carrier.position,
-            speed: carrier.speed,
-        })
-        .collect()
+fn lanes_agree(call: Call, sample: &Sample) {
+    let (ours, theirs) = (&sample.lanes.library, &sample.lanes.reference.0);
+    let figures = (ours.started, ours.road, ours.cycle, ours.count);
+    let road = road(theirs.road);
+    let expected = (theirs.started.into(), road, theirs.cycle, theirs.count);
+    assert_eq!(figures, expected, "{}", call.name());
+    for (record, &expected) in ours.records.iter().zip(theirs.present()) {
+        assert_eq!(record.carrier, carrier(expected), "{}", call.name());
+    }
 }

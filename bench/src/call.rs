@@ -1,5 +1,7 @@
 //! The calls that are measured.
 
+use std::hint::black_box;
+
 #[derive(Clone, Copy, PartialEq, Eq)]
 pub enum Call {
     Start,
@@ -30,4 +32,9 @@ impl Call {
             Call::LaneText => "lane text",
         }
     }
+}
+
+/// Takes an answer in, so that no call can be left out.
+pub fn consume<T>(answer: T) {
+    black_box(&answer);
 }

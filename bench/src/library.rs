@@ -1,52 +1,56 @@
-//! The library's calls: the lane goes in by value and comes back in the answer.
+//! The library's calls on a sample's lane.
 
-use crate::call::Call;
-use crate::sample::Sample;
+use crate::call::{consume, Call};
+use crate::sample::{carrier, Sample};
 use rondavitse::binding::*;
-use std::hint::black_box;
+
+/// The functions of a call by their symbols.
+pub const SYMBOLS: [&str; 6] = [
+    "rondavitse_start",
+    "rondavitse_enter",
+    "rondavitse_leave",
+    "rondavitse_cycle",
+    "rondavitse_read",
+    "rondavitse_lane_text",
+];
 
 pub fn run(call: Call) -> fn(&mut Sample) {
     match call {
-        Call::Start => |sample| consume(&start(sample)),
-        Call::Enter => |sample| consume(&enter(sample)),
-        Call::Leave => |sample| consume(&leave(sample)),
-        Call::Cycle => |sample| consume(&cycle(sample)),
-        Call::Read => |sample| consume(&read(sample)),
-        Call::LaneText => |sample| consume(&lane_text(sample)),
+        Call::Start => |sample| consume(start(sample)),
+        Call::Enter => |sample| consume(enter(sample)),
+        Call::Leave => |sample| consume(leave(sample)),
+        Call::Cycle => |sample| consume(cycle(sample)),
+        Call::Read => |sample| consume(read(sample)),
+        Call::LaneText => |sample| consume(lane_text(sample)),
     }
 }
 
-/// By reference, so that the answer is not copied once more.
-fn consume<T>(answer: &T) {
-    black_box(answer);
+pub fn start(sample: &mut Sample) -> u32 {
+    let lane = &mut sample.lanes.library;
+    let (road, first) = (lane.road, lane.cycle);
+    unsafe { rondavitse_start(lane, road, first) }
 }
 
-pub fn start(sample: &Sample) -> Changed {
-    let lane = &sample.library;
-    unsafe { rondavitse_start(*lane, lane.surface, lane.end, lane.limit, lane.cycle) }
+pub fn enter(sample: &mut Sample) -> Entered {
+    unsafe { rondavitse_enter(&mut sample.lanes.library, carrier(sample.visitor)) }
 }
 
-pub fn enter(sample: &Sample) -> Entered {
-    let carrier = sample.visitor;
-    let (number, position, speed) = (carrier.number, carrier.position, carrier.speed);
-    unsafe { rondavitse_enter(sample.library_before, number, position, speed) }
+pub fn leave(sample: &mut Sample) -> u32 {
+    unsafe { rondavitse_leave(&mut sample.lanes.library, sample.visitor.number) }
 }
 
-pub fn leave(sample: &Sample) -> Changed {
-    unsafe { rondavitse_leave(sample.library, sample.visitor.number) }
-}
-
-pub fn cycle(sample: &Sample) -> Cycled {
-    let (count, length) = (sample.library.count, MOST_CARRIERS);
+pub fn cycle(sample: &mut Sample) -> Cycled {
+    let lane = &mut sample.lanes.library;
+    let (count, length) = (lane.count as usize, MOST_CARRIERS);
     let (sorts, values) = (sample.sorts.as_ptr(), sample.values.as_ptr());
-    unsafe { rondavitse_cycle(sample.library, count, sorts, length, values, length) }
+    unsafe { rondavitse_cycle(lane, count, sorts, length, values, length) }
 }
 
-pub fn read(sample: &Sample) -> ReadOut {
-    unsafe { rondavitse_read(sample.library, sample.visitor.number) }
+pub fn read(sample: &mut Sample) -> ReadOut {
+    unsafe { rondavitse_read(&sample.lanes.library, sample.visitor.number) }
 }
 
 pub fn lane_text(sample: &mut Sample) -> Listed {
     let text = &mut sample.text;
-    unsafe { rondavitse_lane_text(sample.library, text.as_mut_ptr(), text.len()) }
+    unsafe { rondavitse_lane_text(&sample.lanes.library, text.as_mut_ptr(), text.len()) }
 }

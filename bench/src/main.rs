@@ -1,5 +1,6 @@
 //! What each call costs in the library and in the reference's fast form, on
-//! the same random sound lanes in one run.
+//! the same random sound lanes in one run. Both change a lane in place, and
+//! no caller copies one.
 
 mod agreement;
 mod call;
@@ -7,23 +8,16 @@ mod instructions;
 mod library;
 mod reference;
 mod sample;
+mod stack;
 mod table;
 mod throughput;
 mod timing;
 
-use call::Call;
-use lane_reference::random::Random;
-use sample::Sample;
+use sample::all_samples;
 use std::process::ExitCode;
 use std::{env, io};
-use table::Cost;
 
-const CARRIERS: [usize; 3] = [1, 8, 64];
-
-/// The same lanes in every run.
-const SEED: u64 = 1;
-
-const USAGE: &str = "usage: bench/run [--instructions | --programs PROGRAM..]";
+const USAGE: &str = "usage: bench/run [--programs PROGRAM..]";
 
 fn main() -> ExitCode {
     let flags: Vec<String> = env::args().skip(1).collect();
@@ -39,8 +33,7 @@ fn main() -> ExitCode {
 
 fn run(flags: &[&str]) -> io::Result<()> {
     match flags {
-        [] => print(&times(), "ns"),
-        ["--instructions"] => print(&instructions::costs()?, "instructions"),
+        [] => print_all()?,
         [instructions::COUNTED] => instructions::run_all(),
         ["--programs", programs @ ..] => throughput::print(programs)?,
         _ => return Err(io::Error::other(USAGE)),
@@ -48,23 +41,14 @@ fn run(flags: &[&str]) -> io::Result<()> {
     Ok(())
 }
 
-/// The lanes to make the calls on, by their number of carriers.
-fn all_samples() -> [Vec<Sample>; 3] {
-    let mut random = Random::new(SEED);
-    CARRIERS.map(|carriers| sample::samples(&mut random, carriers))
-}
-
-fn times() -> Vec<Cost> {
-    let mut costs = Vec::new();
-    for mut samples in all_samples() {
-        samples.iter_mut().for_each(agreement::check);
-        costs.extend(Call::ALL.map(|call| timing::cost(call, &mut samples)));
-    }
-    costs
-}
-
-fn print(costs: &[Cost], unit: &str) {
-    table::print(costs, unit);
-    println!();
-    table::print_growth(costs, unit);
+fn print_all() -> io::Result<()> {
+    let mut samples = all_samples();
+    samples.iter_mut().flatten().for_each(agreement::check);
+    let instructions = instructions::costs()?;
+    table::print_costs(&instructions, &timing::costs());
+    println!("\nWhat a further carrier adds, in instructions:\n");
+    table::print_growth(&instructions);
+    println!("\nThe most that a call takes of the stack:\n");
+    table::print_stack(&stack::costs());
+    Ok(())
 }

@@ -1,44 +1,96 @@
-//! The calls of the reference's fast form: they change a lane in place, so
-//! each that does works on a copy. Read and lane text borrow the lane.
+//! The reference's calls on a sample's lane, each in a function of its own,
+//! as the library's are.
 
-use crate::call::Call;
+use crate::call::{consume, Call};
 use crate::sample::Sample;
-use lane_reference::{FastLane, Supervisor};
-use std::hint::black_box;
+use lane_reference::{Carrier, Cycled, FastLane, Reading, Refusal, Road, Supervisor};
+
+/// The functions of a call by their symbols.
+pub const SYMBOLS: [&str; 6] = [
+    "reference_start",
+    "reference_enter",
+    "reference_leave",
+    "reference_cycle",
+    "reference_read",
+    "reference_lane_text",
+];
 
 pub fn run(call: Call) -> fn(&mut Sample) {
     match call {
-        Call::Start => |sample| {
-            on_copy(&sample.reference, |lane| {
-                let (surface, end) = (lane.0.surface, lane.0.end);
-                lane.start(surface, end, lane.0.limit, lane.0.cycle)
-            })
-        },
-        Call::Enter => |sample| {
-            let carrier = sample.visitor;
-            on_copy(&sample.reference_before, |lane| {
-                lane.enter(carrier.number, carrier.position, carrier.speed)
-            })
-        },
-        Call::Leave => {
-            |sample| on_copy(&sample.reference, |lane| lane.leave(sample.visitor.number))
-        }
-        Call::Cycle => |sample| {
-            on_copy(&sample.reference, |lane| {
-                lane.cycle(lane.0.count, &sample.wishes)
-            })
-        },
-        Call::Read => |sample| {
-            black_box(&sample.reference.read(sample.visitor.number));
-        },
-        Call::LaneText => |sample| {
-            black_box(&sample.reference.lane_text(&mut sample.text));
-        },
+        Call::Start => |sample| consume(start(sample)),
+        Call::Enter => |sample| consume(enter(sample)),
+        Call::Leave => |sample| consume(leave(sample)),
+        Call::Cycle => |sample| consume(cycle(sample)),
+        Call::Read => |sample| consume(read(sample)),
+        Call::LaneText => |sample| consume(lane_text(sample)),
     }
 }
 
-fn on_copy<T>(lane: &FastLane, call: impl FnOnce(&mut FastLane) -> T) {
-    let mut lane = *lane;
-    black_box(&call(&mut lane));
-    black_box(&lane);
+pub fn start(sample: &mut Sample) -> Result<(), Refusal> {
+    let lane = &mut sample.lanes.reference;
+    let (road, first) = (lane.0.road, lane.0.cycle);
+    reference_start(lane, road, first)
+}
+
+pub fn enter(sample: &mut Sample) -> Result<usize, Refusal> {
+    reference_enter(&mut sample.lanes.reference, sample.visitor)
+}
+
+pub fn leave(sample: &mut Sample) -> Result<(), Refusal> {
+    reference_leave(&mut sample.lanes.reference, sample.visitor.number)
+}
+
+pub fn cycle(sample: &mut Sample) -> Result<Cycled, Refusal> {
+    let lane = &mut sample.lanes.reference;
+    let count = lane.0.count;
+    reference_cycle(lane, count, &sample.sorts, &sample.values)
+}
+
+pub fn read(sample: &mut Sample) -> Result<Reading, Refusal> {
+    reference_read(&sample.lanes.reference, sample.visitor.number)
+}
+
+pub fn lane_text(sample: &mut Sample) -> Result<usize, Refusal> {
+    reference_lane_text(&sample.lanes.reference, &mut sample.text)
+}
+
+#[no_mangle]
+#[inline(never)]
+fn reference_start(lane: &mut FastLane, road: Road, first: u64) -> Result<(), Refusal> {
+    lane.start(road, first)
+}
+
+#[no_mangle]
+#[inline(never)]
+fn reference_enter(lane: &mut FastLane, carrier: Carrier) -> Result<usize, Refusal> {
+    lane.enter(carrier)
+}
+
+#[no_mangle]
+#[inline(never)]
+fn reference_leave(lane: &mut FastLane, number: u64) -> Result<(), Refusal> {
+    lane.leave(number)
+}
+
+#[no_mangle]
+#[inline(never)]
+fn reference_cycle(
+    lane: &mut FastLane,
+    count: u64,
+    sorts: &[u8],
+    values: &[u32],
+) -> Result<Cycled, Refusal> {
+    lane.cycle_given(count, sorts, values)
+}
+
+#[no_mangle]
+#[inline(never)]
+fn reference_read(lane: &FastLane, number: u64) -> Result<Reading, Refusal> {
+    lane.read(number)
+}
+
+#[no_mangle]
+#[inline(never)]
+fn reference_lane_text(lane: &FastLane, text: &mut [u8]) -> Result<usize, Refusal> {
+    lane.lane_text(text)
 }

@@ -14,15 +14,14 @@ enum {
     LANE_END = 400 * METRE,
     SPEED_LIMIT = 20 * METRE_PER_SECOND,
     SIDE_ROAD = 120 * METRE,
-    LAST_REFUSAL = 28,
-    LONGEST_TEXT = 2635
+    LAST_REFUSAL = 28
 };
 
 #define EXIT_POSITION 300.0 /* m */
 
 typedef struct {
-    rondavitse_lane lane;
-    uint16_t next_number;
+    rondavitse_lane lane; /* changed by the supervisor alone */
+    uint64_t next_number;
     unsigned admitted, replaced, left, gone;
     unsigned refused[LAST_REFUSAL + 1]; /* by the refusal's number */
     double closest;                     /* the least distance to the carrier ahead, m */
@@ -37,18 +36,17 @@ static void expect_accepted(const char *call, uint32_t no) {
     }
 }
 
-static host started(void) {
-    host h = {.next_number = 1, .closest = LANE_END};
-    rondavitse_changed answer = rondavitse_start(rondavitse_empty(), DRY, LANE_END, SPEED_LIMIT, 0);
-    expect_accepted("start", answer.no);
-    h.lane = answer.lane;
-    return h;
+static void start(host *h) {
+    const rondavitse_road road = {.surface = DRY, .end = LANE_END, .limit = SPEED_LIMIT};
+    *h = (host){.next_number = 1, .closest = LANE_END};
+    rondavitse_empty(&h->lane);
+    expect_accepted("start", rondavitse_start(&h->lane, road, 0));
 }
 
 /* A carrier that is refused waits with its number for the next try. */
-static void try_entry(host *h, uint32_t position, uint32_t speed) {
-    rondavitse_entered answer = rondavitse_enter(h->lane, h->next_number, position, speed);
-    h->lane = answer.lane;
+static void try_entry(host *h, uint64_t position, uint64_t speed) {
+    const rondavitse_carrier carrier = {.number = h->next_number, .position = position, .speed = speed};
+    const rondavitse_entered answer = rondavitse_enter(&h->lane, carrier);
     if (answer.no == 0) {
         h->next_number++;
         h->admitted++;
@@ -94,13 +92,13 @@ static wish hold(void) {
 }
 
 /* By the carrier's number; but now and then the foremost brakes for six seconds. */
-static wish wish_of(rondavitse_carrier carrier, size_t place, int cycle) {
+static wish wish_of(const rondavitse_record *carrier, size_t place, int cycle) {
     if (place == 0 && cycle % 600 >= 552) {
         return acceleration(-2.5f);
     }
-    switch (carrier.number % 4) {
+    switch (carrier->number % 4) {
     case 0:
-        return carrier.speed < 8 * METRE_PER_SECOND ? units(16) : hold();
+        return carrier->speed < 8 * METRE_PER_SECOND ? units(16) : hold();
     case 1:
         return units(cycle % 3 == 0 ? -4 : 12);
     case 2:
@@ -113,21 +111,20 @@ static wish wish_of(rondavitse_carrier carrier, size_t place, int cycle) {
 static void drive(host *h, int cycle) {
     uint8_t sorts[RONDAVITSE_MOST_CARRIERS];
     uint32_t values[RONDAVITSE_MOST_CARRIERS];
-    size_t count = h->lane.count;
+    const size_t count = h->lane.count;
     for (size_t place = 0; place < count; place++) {
-        wish w = wish_of(h->lane.carriers[place], place, cycle);
+        const wish w = wish_of(&h->lane.records[place], place, cycle);
         sorts[place] = w.sort;
         values[place] = w.value;
     }
-    rondavitse_cycled answer = rondavitse_cycle(h->lane, count, sorts, count, values, count);
+    const rondavitse_cycled answer = rondavitse_cycle(&h->lane, count, sorts, count, values, count);
     expect_accepted("cycle", answer.no);
-    h->lane = answer.lane;
     h->replaced += answer.replaced;
     h->gone += answer.gone;
 }
 
 static rondavitse_reading reading_at(const host *h, size_t place) {
-    rondavitse_read_out answer = rondavitse_read(h->lane, h->lane.carriers[place].number);
+    const rondavitse_read_out answer = rondavitse_read(&h->lane, h->lane.records[place].number);
     expect_accepted("read", answer.no);
     return answer.reading;
 }
@@ -135,7 +132,7 @@ static rondavitse_reading reading_at(const host *h, size_t place) {
 static void watch(host *h) {
     double ahead = LANE_END;
     for (size_t place = 0; place < h->lane.count; place++) {
-        rondavitse_reading reading = reading_at(h, place);
+        const rondavitse_reading reading = reading_at(h, place);
         if (place > 0 && ahead - reading.position < h->closest) {
             h->closest = ahead - reading.position;
         }
@@ -150,21 +147,19 @@ static void watch(host *h) {
 static void let_carriers_out(host *h) {
     size_t place = 0;
     while (place < h->lane.count) {
-        uint16_t number = h->lane.carriers[place].number;
+        const uint64_t number = h->lane.records[place].number;
         if (number % 5 != 0 || reading_at(h, place).position < EXIT_POSITION) {
             place++;
             continue;
         }
-        rondavitse_changed answer = rondavitse_leave(h->lane, number);
-        expect_accepted("leave", answer.no);
-        h->lane = answer.lane; /* the next carrier now has this place */
-        h->left++;
+        expect_accepted("leave", rondavitse_leave(&h->lane, number));
+        h->left++; /* the next carrier now has this place */
     }
 }
 
 static void print_summary(const host *h) {
-    uint8_t text[LONGEST_TEXT];
-    rondavitse_listed answer = rondavitse_lane_text(h->lane, text, sizeof text);
+    uint8_t text[RONDAVITSE_LONGEST_TEXT];
+    const rondavitse_listed answer = rondavitse_lane_text(&h->lane, text, sizeof text);
     expect_accepted("lane text", answer.no);
     printf("cycles run: %d\n", CYCLES);
     printf("entries admitted: %u\n", h->admitted);
@@ -184,7 +179,8 @@ static void print_summary(const host *h) {
 }
 
 int main(void) {
-    host h = started();
+    host h;
+    start(&h);
     for (int cycle = 0; cycle < CYCLES; cycle++) {
         let_carriers_in(&h, cycle);
         drive(&h, cycle);

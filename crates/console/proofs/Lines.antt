@@ -1,29 +1,31 @@
 -- A block's lines, read one after the other: where the reading has come to, and what is still to be read.
 use mathlib.Core.Path.{_≡_, refl, sym, ap, _∙_}
-use mathlib.Core.Bool.{Bool, true, false, true≢false, _&&_, cond}
+use mathlib.Core.Bool.{Bool, true, false, true≢false, _&&_}
 use mathlib.Core.List.{List}
-use Prim.Native.Nat.{ℕ, suc, _+_, _-_, _≤_}
-use native.Mathlib.Nat.{add-assoc}
+use Prim.Native.Nat.{ℕ, suc, _+_, _≤_}
+use native.Mathlib.Nat.{add-assoc, add-zero}
 use native.Mathlib.Omega.{arith}
-use borrow.Author.Tests.{eq-eqb, ne-eqb}
-use lib.Dec.{eqb}
 use lib.ListN.{length, drop}
 use lib.Seq.{drop-drop}
-use Rattle.text.specs.Fields.{lineLength, hasLine, fieldIn, isNumber, valueIn}
-use Rattle.text.proofs.ReadLaws.{field-at-most}
-use Rattle.lane.specs.declared.Lane.{Lane}
-use Rattle.lane.specs.State.{stateOf}
+use Rattle.text.specs.declared.fields.Field.{Field}
+use Rattle.text.specs.Ascii.{ascii}
+use Rattle.text.specs.Fields.{lineLength, lineValue, isWord, fieldIn, isNumber, FieldRead}
+use Rattle.text.proofs.ReadLaws.{other-length, field-at-most}
+use Rattle.lane.specs.Layout.{Words}
+use Rattle.lane.specs.Call.{Call}
 use Rattle.console.specs.declared.Stepped.{Stepped}
-use Rattle.console.specs.Blocks.{Block, Parsed, parsed, malformed, past, afterLine, isLine, field}
-use Rattle.console.specs.Program.{ran, Gives}
+use Rattle.console.specs.declared.blocks.Kind.{Kind}
+use Rattle.console.specs.Blocks.{Parsed, parsed, malformed, past, afterLine, field, kindOf, linesOf, blockIn}
+use Rattle.console.specs.Output.{refusal}
+use Rattle.console.specs.Program.{Prints, RunGives}
 
 past-past : (j k : ℕ) (p : Parsed) → past j (past k p) ≡ past (j + k) p
-past-past j k (parsed b used) = ap (parsed b) (sym (add-assoc j k used))
+past-past j k (parsed x used) = ap (parsed x) (sym (add-assoc j k used))
 past-past j k malformed = refl
 
 -- a number that is read is in its field's range
-pub field-most : (key : List ℕ) (most : ℕ) (t : List ℕ) {value : ℕ} → value ≡ valueIn (fieldIn key most t) → value ≤ most
-field-most key most t e = omega (arith, field-at-most key most t, e)
+pub field-most : (key : List ℕ) (most : ℕ) (text : List ℕ) (at : ℕ) {r : Field} → FieldRead key most text at r → r .value ≤ most
+field-most key most text at told = omega (arith, field-at-most key most (drop at text), told .value)
 
 -- `whole` began at `at`; what `rest` reads from the place on is still to come
 pub record Reads (input : List ℕ) (at place : ℕ) (whole : Parsed) (rest : List ℕ → Parsed) : Type 0 where
@@ -68,73 +70,68 @@ module _ {input : List ℕ} {at : ℕ} {whole : Parsed} where
   none-read r e = r .whole-is ∙ ap (past (r .used)) e
 
   -- a line of a key with a number, as `read_field` tells of it, after the lines so far
-  module _ (key : List ℕ) (most : ℕ) (next : ℕ → List ℕ → Parsed) {place : ℕ} {ok : Bool} {value after : ℕ}
-      (told : (ok ≡ isNumber (fieldIn key most (drop place input)))
-      × ((value ≡ valueIn (fieldIn key most (drop place input)))
-      × (after ≡ cond (isNumber (fieldIn key most (drop place input))) (place + suc (lineLength (drop place input))) place))) where
-    read : Reads input at place whole (λ t. field key most t next) → ok ≡ true → Reads input at after whole (next value)
+  module _ (key : List ℕ) (most : ℕ) (next : ℕ → List ℕ → Parsed) {place : ℕ} {f : Field} (told : FieldRead key most input place f) where
+    read : Reads input at place whole (λ t. field key most t next) → f .ok ≡ true → Reads input at (f .next) whole (next (f .value))
     unfolding field
     read r e =
-        let i : isNumber (fieldIn key most (drop place input)) ≡ true = sym (told .0) ∙ e in
-        line-read (next value) r (rw (i, told .1 .0) refl) (rw i at (told .1 .1))
+        let i : isNumber (fieldIn key most (drop place input)) ≡ true = sym (told .ok) ∙ e in
+        line-read (next (f .value)) r (rw (i, told .value) refl) (rw i at (told .next))
 
-    unread : Reads input at place whole (λ t. field key most t next) → ok ≡ false → whole ≡ malformed
+    unread : Reads input at place whole (λ t. field key most t next) → f .ok ≡ false → whole ≡ malformed
     unfolding field
     unread r e =
-        let i : isNumber (fieldIn key most (drop place input)) ≡ false = sym (told .0) ∙ e in
+        let i : isNumber (fieldIn key most (drop place input)) ≡ false = sym (told .ok) ∙ e in
         none-read r (rw i refl)
 
     pub field-read : {so-far : Bool} → Reached input at place whole so-far (λ t. field key most t next)
-        → Reached input at after whole (so-far && ok) (next value)
+        → Reached input at (f .next) whole (so-far && f .ok) (next (f .value))
     field-read {so-far = true} r = record { there = read (r .there refl); missing = unread (r .there refl) }
     field-read {so-far = false} r = record { there = λ t. absurd (true≢false (sym t)); missing = r .missing }
 
-  -- the block is read whole, and then run
-  pub all-read : {place : ℕ} {b : Block} → Reads input at place whole (λ t. parsed b 0) → {l : Lane} {buffer out : List ℕ} {r : Stepped}
-      → Gives l (ran (stateOf l) (parsed b 0)) place buffer r out → Gives l (ran (stateOf l) whole) at buffer r out
-  all-read k g =
-      rw (k .whole-is)
-      (record {
-        state = g .state;
-        kept = g .kept;
-        next = g .next ∙ omega (arith, k .place-is);
-        written-length = g .written-length;
-        room = g .room;
-        bytes = g .bytes;
-        stop = g .stop;
-      })
+  module _ {before after : Words} {buffer out : List ℕ} {r : Stepped} where
+    -- the block is read whole, and then run
+    pub all-read : {place : ℕ} {x : Call} → Reads input at place whole (λ t. parsed x 0) → RunGives before (parsed x 0) place buffer r after out
+        → RunGives before whole at buffer r after out
+    all-read k g =
+        let p = g .prints in
+        rw (k .whole-is)
+        (record {
+          state = g .state;
+          kept = g .kept;
+          prints = record { next = p .next ∙ omega (arith, k .place-is); written-length = p .written-length; room = p .room; bytes = p .bytes; stop = p .stop };
+        })
+
+-- no block is read: 8 is printed, and the lane is left as it is
+pub refuses-8 : {whole : Parsed} → whole ≡ malformed → (l : Words) {at : ℕ} {buffer out : List ℕ} {r : Stepped} → Prints (refusal 8) at true buffer r out
+    → RunGives l whole at buffer r l out
+refuses-8 e l p = rw e (record { state = refl; kept = λ k. refl; prints = rw add-zero p })
 
 -- a block read in another way gives what it gives
-pub read-as : {whole p : Parsed} → whole ≡ p → {l : Lane} {at : ℕ} {buffer out : List ℕ} {r : Stepped}
-    → Gives l (ran (stateOf l) p) at buffer r out → Gives l (ran (stateOf l) whole) at buffer r out
+pub read-as : {whole p : Parsed} → whole ≡ p → {before after : Words} {at : ℕ} {buffer out : List ℕ} {r : Stepped}
+    → RunGives before p at buffer r after out → RunGives before whole at buffer r after out
 read-as e g = rw e g
 
--- ---- a line of a key, as `read_line` tells of it
-module _ (key t : List ℕ) (at : ℕ) {ok : Bool} {next : ℕ}
-    (told : (ok ≡ hasLine key t) × (next ≡ cond (hasLine key t) (at + suc (lineLength t)) at)) where
-  pub line-after : ok ≡ true → next ≡ at + suc (lineLength t)
-  line-after e = let h : hasLine key t ≡ true = sym (told .0) ∙ e in rw h at (told .1)
+-- ---- the `call=` line
 
-  -- what is told of the same line, given whole
-  abbrev Whole : Bool → ℕ → Type 0
-  Whole o n = (o ≡ isLine key t) × (n ≡ cond (isLine key t) (at + suc (lineLength t)) at)
+-- a block is of the kind that the line's word names
+pub block-of : (t : List ℕ) {word : List ℕ} {found kind : Kind} → word ≡ lineValue (ascii "call=") t → found ≡ kindOf word → found ≡ kind
+    → blockIn t ≡ afterLine t (linesOf kind)
+unfolding blockIn
+block-of t w f e = rw (← w, ← f, e) refl
 
-  pub whole-line : ok ≡ true → next - at - 1 ≡ length key → Whole ok next
-  unfolding isLine
-  whole-line e l =
-      let h : hasLine key t ≡ true = sym (told .0) ∙ e in
-      let n = line-after e in
-      let long : eqb (lineLength t) (length key) ≡ true = eq-eqb (lineLength t) (length key) (omega arith) in
-      (rw (h, long) e, rw (h, long) n)
+-- an empty word names none
+no-word : (word known : List ℕ) → length word ≡ 0 → 1 ≤ length known → isWord known word ≡ false
+no-word word known h k = other-length known word (λ e. omega arith)
 
-  pub longer-line : ok ≡ true → (next - at - 1 ≡ length key → ⊥) → Whole false at
-  unfolding isLine
-  longer-line e l =
-      let h : hasLine key t ≡ true = sym (told .0) ∙ e in
-      let n = line-after e in
-      let long : eqb (lineLength t) (length key) ≡ false = ne-eqb (lineLength t) (length key) (λ q. l (omega arith)) in
-      (rw (h, long) refl, rw (h, long) refl)
-
-  pub no-line : ok ≡ false → Whole false at
-  unfolding isLine
-  no-line e = let h : hasLine key t ≡ false = sym (told .0) ∙ e in (rw h refl, rw h refl)
+pub no-block : (t : List ℕ) {word : List ℕ} → word ≡ lineValue (ascii "call=") t → length word ≡ 0 → blockIn t ≡ malformed
+unfolding afterLine kindOf blockIn
+no-block t {word} w h =
+    rw (
+      ← w,
+      no-word word (ascii "start") h (omega arith),
+      no-word word (ascii "enter") h (omega arith),
+      no-word word (ascii "leave") h (omega arith),
+      no-word word (ascii "cycle") h (omega arith),
+      no-word word (ascii "show") h (omega arith),
+    )
+    refl

@@ -1,25 +1,23 @@
--- What is put into the buffer for a block, and that it gives the step that prints it.
-use mathlib.Core.Path.{_≡_, refl, sym, _∙_, subst}
+-- What is put into the buffer for a call, and that it gives the step that runs the call.
+use mathlib.Core.Path.{_≡_, refl, sym, ap, _∙_}
 use mathlib.Core.Bool.{Bool, true, false}
-use mathlib.Core.List.{List, [], _++_}
-use Prim.Native.Nat.{ℕ, _+_, _≤_, _<_}
+use mathlib.Core.List.{List, []}
+use Prim.Native.Nat.{ℕ, _≤_, _<_}
 use native.Mathlib.Nat.{add-zero}
 use native.Mathlib.Decide.{decLt}
 use native.Mathlib.Omega.{arith}
-use borrow.Author.Tests.{ne-eqb, ltb-true}
-use lib.ListN.{length, take, length-append}
-use Rattle.text.specs.Ascii.{ascii}
-use Rattle.text.specs.Numbers.{decimal, hexadecimal}
+use borrow.Author.Tests.{eq-eqb, ne-eqb, ltb-true}
+use lib.Dec.{ltb}
+use lib.ListN.{length}
+use Rattle.text.specs.Numbers.{decimal}
 use Rattle.text.specs.Lines.{line, written, placeAfter}
-use Rattle.text.proofs.Laws.{decimal-at-most, length-hexadecimal, length-line, place-fits, place-too-long, written-nothing, Put}
-use Rattle.lane.specs.declared.Lane.{Lane}
-use Rattle.lane.specs.State.{State, stateOf}
+use Rattle.text.proofs.Laws.{decimal-at-most, length-line, length-written, place-fits, place-too-long, written-nothing, Put}
+use Rattle.lane.specs.Layout.{Words, stateOf}
+use Rattle.lane.specs.Call.{Call, Answer, callAnswer, Gives}
 use Rattle.console.specs.declared.Stepped.{Stepped}
-use Rattle.wish.specs.declared.Wish.{Wish}
-use Rattle.lane.specs.Calls.{cycleNo, cycleWord, cycleGone, cycleState}
-use Rattle.console.specs.Blocks.{Block, parsed, cycle-block}
-use Rattle.console.specs.Output.{refusal, sixtyFour, blockNo, accepted, printed, stateAfter}
-use Rattle.console.specs.Program.{Step, ran, Gives}
+use Rattle.console.specs.Blocks.{parsed}
+use Rattle.console.specs.Output.{refusal, acceptedText, printed, keepsLane}
+use Rattle.console.specs.Program.{Prints, RunGives}
 
 -- what is put lies within the buffer
 pub put-within : (bytes buffer : List ℕ) {out : List ℕ} {end : ℕ} → Put 0 bytes buffer out end
@@ -37,80 +35,37 @@ put-nothing buffer = (sym (written-nothing 0 buffer), sym (place-fits 0 [] buffe
 pub short-line : (key : List ℕ) (n : ℕ) → length key ≤ 8 → n < 18446744073709551616 → length (line key (decimal n)) ≤ 29
 short-line key n h k = omega (arith, length-line key (decimal n), decimal-at-most 20 n (omega arith) (omega arith))
 
--- a step of a lane on which no call is left to make: it is the one returned
-abbrev pub only : (l : Lane) (output : List ℕ) (stop : Bool) → Step
-only l output stop = record { after = stateOf l; keeps = true; used = 0; output = output; stop = stop }
-
--- what is put at the start gives the step that prints it
-pub gives-put : (l : Lane) (next : ℕ) (stop : Bool) (output : List ℕ) {buffer out : List ℕ} {w : ℕ} → length output ≤ length buffer
-    → Put 0 output buffer out w
-    → Gives l (only l output stop) next buffer (record { lane = l; next = next; written = w; stop = stop }) out
-gives-put l next stop output room p =
+-- what is put at the start is printed
+pub prints-put : (next : ℕ) (stop : Bool) (output : List ℕ) {buffer out : List ℕ} {w : ℕ} → length output ≤ length buffer
+    → Put 0 output buffer out w → Prints output next stop buffer (record { next = next; written = w; stop = stop }) out
+prints-put next stop output room p =
     record {
-      state = refl;
-      kept = λ k. refl;
-      next = sym (add-zero next);
+      next = refl;
       written-length = p .1 ∙ place-fits 0 output _ (omega arith) ∙ omega arith;
       room = room;
       bytes = p .0;
       stop = refl;
     }
 
-pub gives-into : {l : Lane} {x : Step} {at : ℕ} {buffer other out : List ℕ} {r : Stepped} → buffer ≡ other → Gives l x at buffer r out → Gives l x at other r out
-gives-into {l} {x} {at} {buffer} {other} {out} {r} e g = subst (λ (b : List ℕ). Gives l x at b r out) e g
+pub prints-length : {output buffer out : List ℕ} {next : ℕ} {stop : Bool} {r : Stepped} → Prints output next stop buffer r out → length out ≡ length buffer
+prints-length {output} {buffer} p = ap length (p .bytes) ∙ length-written 0 output buffer
 
--- ---- a block run on l: the call has answered with the number `no` and the lane `after`, which is l where it is refused
-module _ (l : Lane) (b : Block) {no : ℕ} (numbered : no ≡ blockNo (stateOf l) b) {after : Lane} (left : stateOf after ≡ stateAfter (stateOf l) b)
-    (same : 0 < no → after ≡ l) {next : ℕ} {buffer out : List ℕ} {r : Stepped} where
-  pub run-answered : (output : List ℕ) → printed (stateOf l) b ≡ output → Gives after (only after output false) next buffer r out
-      → Gives l (ran (stateOf l) (parsed b 0)) next buffer r out
-  run-answered output e g =
-      rw e
-      (record {
-        state = g .state ∙ left;
-        kept = λ k. g .kept refl ∙ same (omega (arith, ltb-true 0 (blockNo (stateOf l) b) k));
-        next = g .next;
-        written-length = g .written-length;
-        room = g .room;
-        bytes = g .bytes;
-        stop = g .stop;
-      })
+-- ---- a call on a lane has answered so
+module _ (x : Call) {before after : Words} {a : Answer} (g : Gives x before a after) where
+  -- where it is refused, the very lane is left
+  pub refused-keeps : ltb 0 (callAnswer x (stateOf before) .number) ≡ true → after ≡ before
+  refused-keeps k =
+      g .refused (omega (arith, ltb-true 0 (callAnswer x (stateOf before) .number) k, ap (λ (b : Answer). b .number) (g .answer)))
 
-  pub run-refused : (no ≡ 0 → ⊥) → Gives after (only after (refusal no) false) next buffer r out → Gives l (ran (stateOf l) (parsed b 0)) next buffer r out
-  unfolding printed
-  run-refused h g = run-answered (refusal no) (rw (← numbered, ne-eqb no 0 h) refl) g
+  -- what is printed for it is what the step prints that runs it
+  module _ {next : ℕ} {buffer out : List ℕ} {r : Stepped} (kept : keepsLane x (callAnswer x (stateOf before)) ≡ true → after ≡ before) where
+    pub run-prints : Prints (printed x a) next false buffer r out → RunGives before (parsed x 0) next buffer r after out
+    run-prints p = record { state = g .state; kept = kept; prints = rw (← g .answer, add-zero) p }
 
-  pub run-accepted : no ≡ 0 → (text : List ℕ) → accepted (stateOf l) b ≡ text → Gives after (only after text false) next buffer r out
-      → Gives l (ran (stateOf l) (parsed b 0)) next buffer r out
-  unfolding printed
-  run-accepted e text f g = run-answered text (rw (← numbered, e) f) g
+    pub run-refused : (a .number ≡ 0 → ⊥) → Prints (refusal (a .number)) next false buffer r out → RunGives before (parsed x 0) next buffer r after out
+    unfolding printed
+    run-refused h p = run-prints (rw (ne-eqb (a .number) 0 h) p)
 
--- ---- a cycle: its wishes are those of an array of 64, of which the first n are looked at
-abbrev pub cycled : (word gone : ℕ) → List ℕ
-cycled word gone = ascii "ok=cycle\n" ++ line (ascii "over=") (hexadecimal 16 word) ++ line (ascii "gone=") (decimal gone)
-
-pub length-cycled : (word gone : ℕ) → gone < 18446744073709551616 → length (cycled word gone) ≤ 100
-length-cycled word gone h =
-    let over = line (ascii "over=") (hexadecimal 16 word) in
-    let rest = line (ascii "gone=") (decimal gone) in
-    omega (
-      arith,
-      length-append (ascii "ok=cycle\n" ++ over) rest,
-      length-append (ascii "ok=cycle\n") over,
-      length-line (ascii "over=") (hexadecimal 16 word),
-      length-hexadecimal 16 word,
-      short-line (ascii "gone=") gone (omega arith) h,
-    )
-
-module _ (s : State) (n : ℕ) (wishes : List Wish) (counted : length (take n wishes) ≡ n) (array : sixtyFour (take n wishes) ≡ wishes) where
-  pub cycle-number : cycleNo s n wishes ≡ blockNo s (cycle-block (take n wishes))
-  unfolding blockNo
-  cycle-number = rw (array, counted) refl
-
-  pub cycle-accepted : accepted s (cycle-block (take n wishes)) ≡ cycled (cycleWord s n wishes) (cycleGone s n wishes)
-  unfolding accepted
-  cycle-accepted = rw (array, counted) refl
-
-  pub cycle-after : cycleState s n wishes ≡ stateAfter s (cycle-block (take n wishes))
-  unfolding stateAfter
-  cycle-after = rw (array, counted) refl
+    pub run-accepted : a .number ≡ 0 → Prints (acceptedText x a) next false buffer r out → RunGives before (parsed x 0) next buffer r after out
+    unfolding printed
+    run-accepted e p = run-prints (rw (eq-eqb (a .number) 0 e) p)

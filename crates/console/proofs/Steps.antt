@@ -8,19 +8,20 @@ use native.Mathlib.Omega.{arith}
 use borrow.Author.Tests.{le-leb, lt-leb, eq-eqb, ne-eqb}
 use lib.ListN.{length}
 use Rattle.text.proofs.Laws.{written-nothing}
-use Rattle.lane.specs.declared.Lane.{Lane}
-use Rattle.lane.specs.State.{State, stateOf}
+use Rattle.lane.specs.State.{State}
+use Rattle.lane.specs.Layout.{Words, stateOf}
+use Rattle.console.specs.Limits.{answerSpace}
 use Rattle.console.specs.Blocks.{blockIn}
-use Rattle.console.specs.Program.{halted, ran, stepOf, stepInto, Gives}
+use Rattle.console.specs.Program.{halted, ran, stepOf, stepInto, StepGives}
 
 module _ (buffer : List ℕ) (s : State) (t : List ℕ) where
-  pub too-short : length buffer < 4096 → stepInto buffer s t ≡ halted s
+  pub too-short : length buffer < answerSpace → stepInto buffer s t ≡ halted s
   unfolding stepInto
-  too-short h = rw (lt-leb 4096 (length buffer) h) refl
+  too-short h = rw (lt-leb answerSpace (length buffer) h) refl
 
-  pub step-into : 4096 ≤ length buffer → stepInto buffer s t ≡ stepOf s t
+  pub step-into : answerSpace ≤ length buffer → stepInto buffer s t ≡ stepOf s t
   unfolding stepInto
-  step-into h = rw (le-leb 4096 (length buffer) h) refl
+  step-into h = rw (le-leb answerSpace (length buffer) h) refl
 
 pub at-end : (s : State) (t : List ℕ) → length t ≡ 0 → stepOf s t ≡ halted s
 unfolding stepOf
@@ -31,15 +32,11 @@ unfolding stepOf
 at-block s t h = rw (ne-eqb (length t) 0 h) refl
 
 -- where nothing is done, nothing is put
-pub gives-halted : (l : Lane) (at : ℕ) (buffer : List ℕ)
-    → Gives l (halted (stateOf l)) at buffer (record { lane = l; next = at; written = 0; stop = true }) buffer
+pub gives-halted : (l : Words) (at : ℕ) (buffer : List ℕ)
+    → StepGives l (halted (stateOf l)) at buffer (record { next = at; written = 0; stop = true }) l buffer
 gives-halted l at buffer =
     record {
       state = refl;
       kept = λ k. refl;
-      next = sym (add-zero at);
-      written-length = refl;
-      room = omega arith;
-      bytes = sym (written-nothing 0 buffer);
-      stop = refl;
+      prints = record { next = sym (add-zero at); written-length = refl; room = omega arith; bytes = sym (written-nothing 0 buffer); stop = refl };
     }

@@ -1,79 +1,71 @@
--- Document 01, "Call texts": the blocks that the program reads.
-use Prim.Native.Nat.{ℕ, zero, suc, _+_}
-use mathlib.Core.Bool.{Bool, true, false, _&&_, cond}
-use mathlib.Core.List.{List, [], _∷_}
-use lib.Dec.{eqb}
+-- Document 01, "Call texts": the blocks that the program reads. A block is a call of the lane.
+use Prim.Native.Nat.{ℕ, zero, suc, _+_, _-_, _≤_}
+use mathlib.Core.Path.{_≡_}
+use mathlib.Core.Bool.{Bool, true, false, cond}
+use mathlib.Core.List.{List, [], _∷_, _++_}
 use lib.Ieee.{Float, binary32, ofBits}
-use lib.ListN.{length, drop}
+use lib.ListN.{length, drop, replicate}
 use Rattle.text.specs.declared.numbers.Number.{Number}
 use Rattle.text.specs.declared.numbers.Number.the-variants as number
 use Rattle.text.specs.declared.numbers.Signed.{Signed}
 use Rattle.text.specs.declared.numbers.Signed.the-variants as signed
 use Rattle.text.specs.Ascii.{ascii}
-use Rattle.text.specs.Fields.{lineLength, hasLine, lineValue, fieldIn, isNumber, valueIn, signedIn, bitsIn}
+use Rattle.text.specs.Fields.{lineLength, startsWith, lineValue, isWord, fieldIn, isNumber, valueIn, signedIn, bitsIn}
 use Rattle.wish.specs.declared.Wish.{Wish}
 use Rattle.wish.specs.declared.Wish.the-variants.{Units, Acceleration, TargetSpeed, Hold}
+use Rattle.lane.specs.Limits.{mostCarriers, longestText}
+use Rattle.lane.specs.Listing.{carKey, carMost, atKey, atMost, speedKey, speedMost}
+use Rattle.lane.specs.Call.{Call, start-call, enter-call, leave-call, cycle-call, text-call}
+use Rattle.console.specs.declared.blocks.Kind.{Kind}
+use Rattle.console.specs.declared.blocks.Kind.the-variants.{Start, Enter, Leave, Cycle, Show, Unknown}
+use Rattle.console.specs.declared.reading.Asked.{Asked}
 use Rattle.console.specs.declared.reading.Want.{Want}
 use Rattle.console.specs.declared.reading.Want.the-variants.{Wanted, Nothing}
-
--- "at, end, speed, limit, surface: 32 bits; car: 16; the start's cycle: 64": the most that each holds
-abbrev pub bits32 : ℕ
-bits32 = 4294967295
-
-abbrev pub bits16 : ℕ
-bits16 = 65535
-
-abbrev pub bits64 : ℕ
-bits64 = 18446744073709551615
-
--- ---- blocks
-
--- a block that can be run
-pub data Block : Type 0 where
-  start-block : (surface end limit cycle : ℕ) → Block
-  enter-block : (car at speed : ℕ) → Block
-  leave-block : (car : ℕ) → Block
-  cycle-block : (wishes : List Wish) → Block
-  show-block : Block
+use Rattle.console.specs.Limits.{answerSpace}
 
 -- what a text begins with: a block, which takes so many bytes, or none
 pub data Parsed : Type 0 where
-  parsed : Block → (used : ℕ) → Parsed
+  parsed : Call → (used : ℕ) → Parsed
   malformed : Parsed
 
 -- what comes after k bytes
 abbrev pub past : ℕ → Parsed → Parsed
-past k (parsed b used) = parsed b (k + used)
+past k (parsed x used) = parsed x (k + used)
 past k malformed = malformed
 
 -- "in fixed order": what is read after a text's first line
 unfoldable pub afterLine : List ℕ → (List ℕ → Parsed) → Parsed
 afterLine t next = past (suc (lineLength t)) (next (drop (suc (lineLength t)) t))
 
--- a line that is given whole
-unfoldable pub isLine : (whole : List ℕ) → List ℕ → Bool
-isLine whole t = hasLine whole t && eqb (lineLength t) (length whole)
+-- ---- lines with a number
 
 -- a line of a key with a number, and what follows it
 unfoldable pub field : (key : List ℕ) (most : ℕ) → List ℕ → (ℕ → List ℕ → Parsed) → Parsed
 field key most t next =
     cond (isNumber (fieldIn key most t)) (afterLine t (next (valueIn (fieldIn key most t)))) malformed
 
+-- ".., end, .., limit, surface: 32 bits; ..; the start's cycle: 64": the most that each holds
+abbrev pub bits32 : ℕ
+bits32 = 4294967295
+
+abbrev pub bits64 : ℕ
+bits64 = 18446744073709551615
+
 -- "`call=start`, `surface`, `end`, `limit`, `cycle`"
 unfoldable pub startLines : List ℕ → Parsed
 startLines t =
     field (ascii "surface=") bits32 t (λ surface t. field (ascii "end=") bits32 t (λ end t. field (ascii "limit=") bits32 t (λ limit t.
-    field (ascii "cycle=") bits64 t (λ cycle t. parsed (start-block surface end limit cycle) 0))))
+    field (ascii "cycle=") bits64 t (λ first t. parsed (start-call (record { surface = surface; end = end; limit = limit }) first) 0))))
 
--- "`call=enter`, `car`, `at`, `speed`"
+-- "`call=enter`, `car`, `at`, `speed`": a carrier's lines, as in the lane text
 unfoldable pub enterLines : List ℕ → Parsed
 enterLines t =
-    field (ascii "car=") bits16 t (λ car t. field (ascii "at=") bits32 t (λ at t. field (ascii "speed=") bits32 t (λ speed t.
-    parsed (enter-block car at speed) 0)))
+    field carKey carMost t (λ car t. field atKey atMost t (λ at t. field speedKey speedMost t (λ speed t.
+    parsed (enter-call (record { number = car; position = at; speed = speed })) 0)))
 
 -- "`call=leave`, `car`"
 unfoldable pub leaveLines : List ℕ → Parsed
-leaveLines t = field (ascii "car=") bits16 t (λ car t. parsed (leave-block car) 0)
+leaveLines t = field carKey carMost t (λ car t. parsed (leave-call car) 0)
 
 -- ---- "lines `want=`"
 
@@ -88,16 +80,16 @@ floatWanted f (number.Is n) = Wanted (f (ofBits binary32 n))
 floatWanted f number.Malformed = Nothing
 
 -- "`units:` and a number, `accel:` or `speed:` and the float's bits as eight upper-case hexadecimal digits, or `hold`"
-unfoldable pub wishIn : List ℕ → Want
-wishIn t =
-    cond (hasLine (ascii "want=units:") t) (unitsWanted (signedIn (lineValue (ascii "want=units:") t)))
-    (cond (hasLine (ascii "want=accel:") t) (floatWanted Acceleration (bitsIn (lineValue (ascii "want=accel:") t)))
-    (cond (hasLine (ascii "want=speed:") t) (floatWanted TargetSpeed (bitsIn (lineValue (ascii "want=speed:") t)))
-    (cond (isLine (ascii "want=hold") t) (Wanted Hold) Nothing)))
+unfoldable pub wishWanted : (value : List ℕ) → Want
+wishWanted v =
+    cond (isWord (ascii "hold") v) (Wanted Hold)
+    (cond (startsWith (ascii "units:") v) (unitsWanted (signedIn (drop 6 v)))
+    (cond (startsWith (ascii "accel:") v) (floatWanted Acceleration (bitsIn (drop 6 v)))
+    (cond (startsWith (ascii "speed:") v) (floatWanted TargetSpeed (bitsIn (drop 6 v))) Nothing)))
 
--- a `want=` line
+-- a `want=` line; the value is empty where there is none
 unfoldable pub wantIn : List ℕ → Want
-wantIn t = cond (hasLine (ascii "want=") t) (wishIn t) Nothing
+wantIn t = wishWanted (lineValue (ascii "want=") t)
 
 -- whether the line holds a wish
 abbrev pub isWish : Want → Bool
@@ -109,6 +101,12 @@ abbrev pub wishOf : Want → Wish
 wishOf (Wanted w) = w
 wishOf Nothing = Hold
 
+-- what is told of the `want=` line at a place: whether there is one, its wish, or hold, and the place after it, or the place itself
+pub record WantRead (input : List ℕ) (at : ℕ) (r : Asked) : Type 0 where
+  pub ok : r .ok ≡ isWish (wantIn (drop at input))
+  pub wish : r .wish ≡ wishOf (wantIn (drop at input))
+  pub next : r .next ≡ cond (isWish (wantIn (drop at input))) (at + suc (lineLength (drop at input))) at
+
 -- a line with a wish, and what follows it
 unfoldable pub want : List ℕ → (Wish → List ℕ → Parsed) → Parsed
 want t next = cond (isWish (wantIn t)) (afterLine t (next (wishOf (wantIn t)))) malformed
@@ -118,17 +116,44 @@ unfoldable pub wants : ℕ → List ℕ → (List Wish → List ℕ → Parsed) 
 wants zero t next = next [] t
 wants (suc n) t next = want t (λ w t. wants n t (λ ws. next (w ∷ ws)))
 
+-- "Cycle (count, 64 wishes, of which the first count are looked at)": the block's wishes, and hold after them
+unfoldable pub sixtyFour : List Wish → List Wish
+sixtyFour ws = ws ++ replicate (mostCarriers - length ws) Hold
+
 -- "`call=cycle`, `cars` (0 to 64), and so many lines `want=`"
 unfoldable pub cycleLines : List ℕ → Parsed
-cycleLines t = field (ascii "cars=") 64 t (λ cars t. wants cars t (λ ws t. parsed (cycle-block ws) 0))
+cycleLines t =
+    field (ascii "cars=") mostCarriers t (λ cars t. wants cars t (λ ws t. parsed (cycle-call cars (sixtyFour ws)) 0))
 
 -- ---- "blocks of `key=value` lines in fixed order"
 
--- the block that a text begins with, by its `call=` line
+-- "`call=show`": the lane text into a buffer that is as long as the longest
+unfoldable pub showCall : Call
+showCall = text-call (replicate longestText 0)
+
+-- what a `call=` line begins, by its word
+unfoldable pub kindOf : (word : List ℕ) → Kind
+kindOf word =
+    cond (isWord (ascii "start") word) Start
+    (cond (isWord (ascii "enter") word) Enter
+    (cond (isWord (ascii "leave") word) Leave
+    (cond (isWord (ascii "cycle") word) Cycle
+    (cond (isWord (ascii "show") word) Show Unknown))))
+
+-- the lines of each kind after it
+abbrev pub linesOf : Kind → List ℕ → Parsed
+linesOf Start t = startLines t
+linesOf Enter t = enterLines t
+linesOf Leave t = leaveLines t
+linesOf Cycle t = cycleLines t
+linesOf Show t = parsed showCall 0
+linesOf Unknown t = malformed
+
+-- the block that a text begins with; the word is empty where there is no `call=` line
 unfoldable pub blockIn : List ℕ → Parsed
-blockIn t =
-    cond (isLine (ascii "call=start") t) (afterLine t startLines)
-    (cond (isLine (ascii "call=enter") t) (afterLine t enterLines)
-    (cond (isLine (ascii "call=leave") t) (afterLine t leaveLines)
-    (cond (isLine (ascii "call=cycle") t) (afterLine t cycleLines)
-    (cond (isLine (ascii "call=show") t) (afterLine t (λ t. parsed show-block 0)) malformed))))
+blockIn t = afterLine t (linesOf (kindOf (lineValue (ascii "call=") t)))
+
+-- where a block's lines are read: the place after its `call=` line, and a buffer for its answer
+pub record Begun (input : List ℕ) (at first : ℕ) (buffer : List ℕ) : Type 0 where
+  pub room : answerSpace ≤ length buffer
+  pub after : first ≡ at + suc (lineLength (drop at input))

@@ -6,14 +6,16 @@ use mathlib.Core.List.{List, [], _++_}
 use lib.Dec.{eqb, leb, ltb}
 use lib.ListN.{length, drop}
 use Rattle.text.specs.Lines.{written}
-use Rattle.lane.specs.declared.Lane.{Lane}
-use Rattle.lane.specs.State.{State, stateOf}
+use Rattle.lane.specs.State.{State}
+use Rattle.lane.specs.Layout.{Words, stateOf}
+use Rattle.lane.specs.Call.{callAnswer, callState}
 use Rattle.console.specs.declared.Stepped.{Stepped}
+use Rattle.console.specs.Limits.{longestInput, answerSpace}
 use Rattle.console.specs.Blocks.{Parsed, parsed, malformed, blockIn}
-use Rattle.console.specs.Output.{refusal, blockNo, printed, stateAfter}
+use Rattle.console.specs.Output.{refusal, printed, keepsLane}
 
--- what one step does: the state after it, whether it leaves the very lane, the records past the carriers too, the bytes of the text that it
--- takes, what it prints, and whether the program stops there
+-- what one step does: the state after it, whether it leaves the very lane, the bytes of the text that it takes, what it prints, and whether
+-- the program stops there
 pub record Step : Type 0 where
   pub after : State
   pub keeps : Bool
@@ -25,33 +27,43 @@ pub record Step : Type 0 where
 abbrev pub halted : State → Step
 halted s = record { after = s; keeps = true; used = 0; output = []; stop = true }
 
--- "A block is read whole before it is run"; "after 8 the program reads no further"; after a refusal "Lane, cycle number and lent bytes
--- are unchanged"
+-- "A block is read whole before it is run"; "after 8 the program reads no further"
 abbrev pub ran : State → Parsed → Step
-ran s (parsed b used) = record { after = stateAfter s b; keeps = ltb 0 (blockNo s b); used = used; output = printed s b; stop = false }
+ran s (parsed x used) =
+    let a = callAnswer x s in
+    record { after = callState x s; keeps = keepsLane x a; used = used; output = printed x a; stop = false }
 ran s malformed = record { after = s; keeps = true; used = 0; output = refusal 8; stop = true }
 
 -- a step on a text, of which nothing is left at the end
 unfoldable pub stepOf : State → List ℕ → Step
 stepOf s t = cond (eqb (length t) 0) (halted s) (ran s (blockIn t))
 
--- a step that prints into a lent buffer: nothing is done where the buffer has less than 4,096 bytes
+-- a step that prints into a lent buffer: nothing is done where it is too short
 unfoldable pub stepInto : (buffer : List ℕ) → State → List ℕ → Step
-stepInto buffer s t = cond (leb 4096 (length buffer)) (stepOf s t) (halted s)
+stepInto buffer s t = cond (leb answerSpace (length buffer)) (stepOf s t) (halted s)
 
--- what `step` on a lane and at a place, with these bytes in the buffer, returns and leaves in the buffer when the step is x
-pub record Gives (l : Lane) (x : Step) (at : ℕ) (buffer : List ℕ) (r : Stepped) (left : List ℕ) : Type 0 where
-  pub state : stateOf (r .lane) ≡ x .after
-  pub kept : x .keeps ≡ true → r .lane ≡ l
-  pub next : r .next ≡ at + x .used
-  pub written-length : r .written ≡ length (x .output)
-  pub room : length (x .output) ≤ length buffer
-  pub bytes : left ≡ written 0 (x .output) buffer
-  pub stop : r .stop ≡ x .stop
+-- what is returned and left in a buffer with these bytes where so much is printed, the program goes on from this place, or stops
+pub record Prints (output : List ℕ) (place : ℕ) (stops : Bool) (buffer : List ℕ) (r : Stepped) (left : List ℕ) : Type 0 where
+  pub next : r .next ≡ place
+  pub written-length : r .written ≡ length output
+  pub room : length output ≤ length buffer
+  pub bytes : left ≡ written 0 output buffer
+  pub stop : r .stop ≡ stops
+
+-- what `step` at a place, with the lane `before` and these bytes in the buffer, leaves in the lane, and returns and prints, when the step is x
+pub record StepGives (before : Words) (x : Step) (at : ℕ) (buffer : List ℕ) (r : Stepped) (after : Words) (left : List ℕ) : Type 0 where
+  pub state : stateOf after ≡ x .after
+  pub kept : x .keeps ≡ true → after ≡ before
+  pub prints : Prints (x .output) (at + x .used) (x .stop) buffer r left
+
+-- the same where the step runs the block that was read
+abbrev pub RunGives : (before : Words) (p : Parsed) (at : ℕ) (buffer : List ℕ) (r : Stepped) (after : Words) (left : List ℕ) → Type 0
+RunGives before p at buffer r after left = StepGives before (ran (stateOf before) p) at buffer r after left
 
 -- the lane before the first block: it is empty and was never started
 abbrev pub neverStarted : State
-neverStarted = record { started = false; surface = 0; end = 0; limit = 0; cycle = 0; count = 0; carriers = [] }
+neverStarted =
+    record { started = false; road = record { surface = 0; end = 0; limit = 0 }; cycle = 0; count = 0; carriers = [] }
 
 -- the steps in turn; a step that does not stop takes at least one byte, so that there are at most as many as bytes
 unfoldable pub outputFrom : (steps : ℕ) → State → List ℕ → List ℕ
@@ -62,7 +74,7 @@ outputFrom (suc n) s t =
 
 -- "10 program input above 65,536 bytes"
 unfoldable pub tooLong : (bytes : ℕ) → Bool
-tooLong n = ltb 65536 n
+tooLong n = ltb longestInput n
 
 -- what an input of so many bytes is refused with, before a block is read
 unfoldable pub lengthAnswer : (bytes : ℕ) → List ℕ

@@ -1,15 +1,12 @@
-// Lines of a block read from the input.
-use text::Line;
+// The `want=` lines of a block.
 use text::Number;
 use text::Signed;
 use wish::Wish;
 ghost use mathlib.Core.Path.{_≡_};
 ghost use mathlib.Core.Bool.{cond};
-ghost use Prim.Native.Nat.{suc, _+_};
-ghost use lib.ListN.{drop};
 ghost use Rattle.wish.specs.declared.Wish.the-variants.{Acceleration, TargetSpeed};
-ghost use Rattle.text.specs.Fields.{lineLength, signedIn, bitsIn};
-ghost use Rattle.console.specs.Blocks.{isLine, unitsWanted, floatWanted, wishIn, wantIn, isWish, wishOf};
+ghost use Rattle.text.specs.Fields.{signedIn, bitsIn};
+ghost use Rattle.console.specs.Blocks.{unitsWanted, floatWanted, wishWanted, WantRead};
 
 // What a line holds: a wish, or none.
 pub(crate) enum Want {
@@ -22,23 +19,6 @@ pub(crate) struct Asked {
     pub(crate) ok: bool,
     pub(crate) wish: Wish,
     pub(crate) next: usize,
-}
-
-// A line that is given whole, without its newline.
-pub(crate) fn whole_line(input: &[u8], at: usize, whole: &[u8]) -> Line
-    ensures { λ r. ⌜ r .ok ≡ isLine (now (whole .entry)) (drop at (now (input .entry))) ⌝ }
-    ensures { λ r. ⌜ r .next ≡ cond (isLine (now (whole .entry)) (drop at (now (input .entry)))) (at + suc (lineLength (drop at (now (input .entry))))) at ⌝ }
-{
-    let line = text::read_line(input, at, whole);
-    if line.ok {
-        if line.next - at - 1 == whole.len() {
-            return line;
-        }
-    }
-    Line {
-        ok: false,
-        next: at,
-    }
 }
 
 fn units_wanted(digits: &[u8]) -> Want
@@ -66,39 +46,39 @@ fn float_wanted(digits: &[u8], acceleration: bool) -> Want
     }
 }
 
-// What a `want=` line holds.
-fn wish_in(input: &[u8], at: usize) -> Want
-    ensures { λ r. ⌜ r ≡ wishIn (drop at (now (input .entry))) ⌝ }
+// What a `want=` line's value asks for.
+fn wish_wanted(value: &[u8]) -> Want
+    ensures { λ r. ⌜ r ≡ wishWanted (now (value .entry)) ⌝ }
 {
-    if text::read_line(input, at, b"want=units:").ok {
-        return units_wanted(text::line_value(input, at, b"want=units:"));
-    }
-    if text::read_line(input, at, b"want=accel:").ok {
-        return float_wanted(text::line_value(input, at, b"want=accel:"), true);
-    }
-    if text::read_line(input, at, b"want=speed:").ok {
-        return float_wanted(text::line_value(input, at, b"want=speed:"), false);
-    }
-    if whole_line(input, at, b"want=hold").ok {
+    if text::is_word(b"hold", value) {
         return Want::Wanted(Wish::Hold);
+    }
+    if value.len() < 6 {
+        return Want::Nothing;
+    }
+    let digits = &value[6..];
+    if text::starts_with(b"units:", value) {
+        return units_wanted(digits);
+    }
+    if text::starts_with(b"accel:", value) {
+        return float_wanted(digits, true);
+    }
+    if text::starts_with(b"speed:", value) {
+        return float_wanted(digits, false);
     }
     Want::Nothing
 }
 
 pub(crate) fn read_want(input: &[u8], at: usize) -> Asked
-    ensures { λ r. ⌜ r .ok ≡ isWish (wantIn (drop at (now (input .entry)))) ⌝ }
-    ensures { λ r. ⌜ r .wish ≡ wishOf (wantIn (drop at (now (input .entry)))) ⌝ }
-    ensures { λ r. ⌜ r .next ≡ cond (isWish (wantIn (drop at (now (input .entry))))) (at + suc (lineLength (drop at (now (input .entry))))) at ⌝ }
+    ensures { λ r. ⌜ WantRead (now (input .entry)) at r ⌝ }
 {
-    let line = text::read_line(input, at, b"want=");
-    if line.ok {
-        if let Want::Wanted(wish) = wish_in(input, at) {
-            return Asked {
-                ok: true,
-                wish,
-                next: line.next,
-            };
-        }
+    let value = text::line_value(input, at, b"want=");
+    if let Want::Wanted(wish) = wish_wanted(value) {
+        return Asked {
+            ok: true,
+            wish,
+            next: at + (5 + value.len() + 1),
+        };
     }
     Asked {
         ok: false,

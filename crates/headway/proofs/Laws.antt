@@ -1,23 +1,23 @@
 -- The laws of two carriers: all that the crates above use of `specs/`, whose definitions they leave shut.
 -- b and B are any rates with 1 ≤ b ≤ B; nothing here knows of rows, places or lanes.
-use mathlib.Core.Path.{_≡_, refl, ap, _∙_, subst}
-use mathlib.Core.Bool.{true, and-eq-true-iff}
+use mathlib.Core.Path.{_≡_, refl, sym, ap, _∙_, subst}
+use mathlib.Core.Bool.{true, _&&_, and-eq-true-iff}
 use Prim.Native.Nat.{ℕ, zero, suc, _+_, _-_, _*_, _/_, _%_, _^_, _≤_, _<_, min}
 use native.Mathlib.Nat.{add-zero}
 use native.Mathlib.Omega.{arith}
 use borrow.Author.Tests.{lt-ltb, ltb-true}
 use lib.Dec.{ltb}
-use lib.IntN.{ℤ, pos, negℤ, _+ℤ_}
+use lib.IntN.{ℤ, pos, negℤ, _+ℤ_, _-ℤ_, _*ℤ_, +ℤ-assoc, +ℤ-comm}
 use lib.Signed.{_≤ℤ_, _<ℤ_, ≤ℤ-refl}
 use Rattle.headway.specs.Motion.{speedAfter, positionAfter, positionAt}
 use Rattle.headway.specs.Stopping.{braking, slowed, gained, stoppingDistance, safeBehind}
 use Rattle.headway.specs.Wishes.{restsBehind}
-use Rattle.headway.specs.Totals.{movedOf, safeOf, passesOf}
+use Rattle.headway.specs.Totals.{restOf, movedOf, safeOf, restsBelow, passesOf}
 use Rattle.headway.specs.declared.Moved.the-variants.{To}
 use Rattle.headway.proofs.Integers.{pos-minus, lt-pos, neg-le}
-use Rattle.headway.proofs.Motion.{speed-is, position-is, trajectory-is, braked, driven, slower}
+use Rattle.headway.proofs.Motion.{speed-is, position-is, trajectory-is, from-to, braked, driven, slower}
 use Rattle.headway.proofs.Signed.{is-speed, moved-is}
-use Rattle.headway.proofs.Totals.{two-rates}
+use Rattle.headway.proofs.Totals.{two-rates, rest-is, below-is}
 use Rattle.headway.proofs.Stopping as S
 use Rattle.headway.proofs.Pair.{braking-gains, weighted, stops-apart, middle-apart, ends-apart}
 
@@ -39,6 +39,23 @@ speed-after = speed-is
 pub position-after : (p v : ℕ) (a : ℤ) (u : ℕ) → pos v +ℤ a ≡ pos u → positionAfter p v a ≡ p + v + u
 position-after p v a u e = position-is v a u e p
 
+-- and of the acceleration only that speed counts
+pub reached-after : (p v : ℕ) (a : ℤ) (u : ℕ) → pos v +ℤ a ≡ pos u → positionAfter p v (pos u -ℤ pos v) ≡ positionAfter p v a
+reached-after p v a u e = position-is v (pos u -ℤ pos v) u (from-to v u) p ∙ sym (position-is v a u e p)
+
+-- a position moved by m moves all that it leads to
+pub position-moved : (p m v : ℕ) (a : ℤ) (u : ℕ) → pos v +ℤ a ≡ pos u → positionAfter (p + m) v a ≡ positionAfter p v a + m
+position-moved p m v a u e = rw (position-is v a u e (p + m), position-is v a u e p) (omega arith)
+
+pub fraction-moved : (n k p m v : ℕ) (a : ℤ) → positionAt n k (p + m) v a ≡ positionAt n k p v a +ℤ pos (n * n * m)
+unfolding positionAt
+fraction-moved n k p m v a =
+    let rest = a *ℤ pos (k * k) in
+    ap (λ (x : ℕ). pos x +ℤ rest) (omega arith)
+    ∙ +ℤ-assoc (pos (n * n * p + 2 * v * k * n)) (pos (n * n * m)) rest
+    ∙ ap (λ (z : ℤ). pos (n * n * p + 2 * v * k * n) +ℤ z) (+ℤ-comm (pos (n * n * m)) rest)
+    ∙ sym (+ℤ-assoc (pos (n * n * p + 2 * v * k * n)) rest (pos (n * n * m)))
+
 pub braking-speed : (c v : ℕ) → pos v +ℤ braking c v ≡ pos (v - c)
 braking-speed = braked
 
@@ -56,6 +73,14 @@ passes-is b B p v w pL vL u hb hB e h = rw (two-rates b B (λ f. omega arith) (�
 pub moved-to : (p v : ℕ) (a : ℤ) (u : ℕ) → pos v +ℤ a ≡ pos u → u < 2 ^ 32
     → movedOf p v a ≡ To (positionAfter p v a) (speedAfter v a)
 moved-to = moved-is
+
+-- the test of a wish that leads to the speed u, by where the carrier ahead rests
+pub tested-by-rest : (b B p v : ℕ) (w : ℤ) (pL vL u : ℕ) → 1 ≤ b → 1 ≤ B → pos v +ℤ w ≡ pos u
+    → restsBelow b (positionAfter p v (pos u -ℤ pos v)) u (restOf B pL vL) ≡ restsBehind b B p v w pL vL
+unfolding restsBehind
+tested-by-rest b B p v w pL vL u hb hB e =
+    below-is b (positionAfter p v (pos u -ℤ pos v)) u (restOf B pL vL) (λ z. omega arith)
+    ∙ rw (reached-after p v w u e, speed-is v w u e, ← rest-is B pL vL (λ z. omega arith)) refl
 
 -- ---- the stopping distance
 
@@ -94,14 +119,25 @@ pub safe-holds : (b B p v pL vL : ℕ) → Safe b B p v pL vL → safeBehind b B
 unfolding safeBehind
 safe-holds b B p v pL vL h = rw (lt-ltb _ _ (h .below), lt-ltb _ _ (h .stops-below)) refl
 
--- what lets a carrier leave from the middle
-pub safe-trans : (b B p v q w pL vL : ℕ) → b ≤ B
-    → safeBehind b B p v q w ≡ true → safeBehind b B q w pL vL ≡ true → safeBehind b B p v pL vL ≡ true
-safe-trans b B p v q w pL vL hB e f =
-    let x = safe-says b B p v q w e in
-    let y = safe-says b B q w pL vL f in
-    safe-holds b B p v pL vL
-    (record { below = omega (arith, x .below, y .below); stops-below = omega (arith, x .stops-below, y .stops-below, S.mono {c = B} {d = b} {v = w} {w = w} hB (omega arith)) })
+-- the same by where the two rest
+pub safe-by-rests : (b B p v pL vL : ℕ) → 1 ≤ b → 1 ≤ B → safeBehind b B p v pL vL ≡ ltb p pL && ltb (restOf b p v) (restOf B pL vL)
+unfolding safeBehind
+safe-by-rests b B p v pL vL hb hB = rw (← rest-is b p v (λ z. omega arith), ← rest-is B pL vL (λ z. omega arith)) refl
+
+-- what lets a carrier leave from the middle, whose rate is c and whose length m; l is the length of the one ahead of it
+pub safe-trans : (b c B p v m q w l pL vL : ℕ) → c ≤ B
+    → safeBehind b B (p + m) v q w ≡ true → safeBehind c B (q + l) w pL vL ≡ true → safeBehind b B (p + l) v pL vL ≡ true
+safe-trans b c B p v m q w l pL vL hB e f =
+    let x = safe-says b B (p + m) v q w e in
+    let y = safe-says c B (q + l) w pL vL f in
+    let stops = S.mono {c = B} {d = c} {v = w} {w = w} hB (omega arith) in
+    safe-holds b B (p + l) v pL vL (record { below = omega arith; stops-below = omega arith })
+
+-- the same of points
+pub points-trans : (b c B p v q w pL vL : ℕ) → c ≤ B
+    → safeBehind b B p v q w ≡ true → safeBehind c B q w pL vL ≡ true → safeBehind b B p v pL vL ≡ true
+points-trans b c B p v q w pL vL hB e f =
+    rw (add-zero p) at (safe-trans b c B p v 0 q w 0 pL vL hB (rw (add-zero p) e) (rw (add-zero q) f))
 
 -- ---- one cycle of a safe pair: the follower drives w, the one ahead a
 

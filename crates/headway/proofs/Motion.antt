@@ -2,7 +2,7 @@
 use mathlib.Core.Path.{_≡_, ap, _∙_}
 use Prim.Native.Nat.{ℕ, _+_, _-_, _*_, _≤_, min}
 use native.Mathlib.Omega.{arith}
-use lib.IntN.{ℤ, pos, natAbs, _+ℤ_, _*ℤ_}
+use lib.IntN.{ℤ, pos, natAbs, _+ℤ_, _-ℤ_, _*ℤ_, +ℤ-comm, -ℤ-+ℤ-cancel}
 use lib.Signed.{_≤ℤ_}
 use Rattle.headway.specs.Motion.{speedAfter, positionAfter, positionAt}
 use Rattle.headway.specs.Stopping.{braking}
@@ -33,6 +33,10 @@ module _ (v : ℕ) (a : ℤ) (u : ℕ) (e : pos v +ℤ a ≡ pos u) where
 
       joined : (k m p v u : ℕ) → m * m * p + 2 * m * k * (p + v) + k * k * (p + v) + u * (k * k) ≡ m * m * p + 2 * m * k * (p + v) + k * k * (p + v + u)
       joined k m p v u = omega arith
+
+-- the acceleration that leads from v to u
+pub from-to : (v u : ℕ) → pos v +ℤ (pos u -ℤ pos v) ≡ pos u
+from-to v u = +ℤ-comm (pos v) (pos u -ℤ pos v) ∙ -ℤ-+ℤ-cancel (pos u) (pos v)
 
 -- braking takes the speed to v − c, or to 0
 pub braked : (c v : ℕ) → pos v +ℤ braking c v ≡ pos (v - c)

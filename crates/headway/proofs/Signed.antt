@@ -14,7 +14,7 @@ use Rattle.headway.specs.Motion.{speedAfter, positionAfter}
 use Rattle.headway.specs.Totals.{isSpeed, movedOf}
 use Rattle.headway.specs.declared.Moved.the-variants.{To, Outside}
 use Rattle.headway.proofs.Integers.{pos-minus}
-use Rattle.headway.proofs.Motion.{speed-is, position-is}
+use Rattle.headway.proofs.Motion.{speed-is, position-is, from-to}
 
 no-speed : (p v : ℕ) (a : ℤ) → isSpeed v a ≡ false → Outside ≡ movedOf p v a
 unfolding movedOf
@@ -120,8 +120,8 @@ module _ (v : ℕ) (h : v < 2 ^ 32) where
       pub sum-cast : T (nonNeg Sum) × Fits w32 (natAbs Sum)
       sum-cast = rw sum-read (tt, record { fits = speed .2 })
 
-      pub sum-moved : (p : ℕ) → To (p + v + natAbs Sum) (natAbs Sum) ≡ movedOf p v a
-      sum-moved p =
+      pub sum-moved : (p x : ℕ) → x ≡ positionAfter p v (pos (natAbs Sum) -ℤ pos v) → To x (natAbs Sum) ≡ movedOf p v a
+      sum-moved p x q =
           let u = speed .0 in
           let e = speed .1 in
-          rw (sum-read, moved-is p v a u e (speed .2), position-is v a u e p, speed-is v a u e) refl
+          rw (q, sum-read, moved-is p v a u e (speed .2), position-is v (pos u -ℤ pos v) u (from-to v u) p, position-is v a u e p, speed-is v a u e) refl

@@ -97,6 +97,16 @@ pub quotient : (c v : ℕ) → 1 ≤ c → stoppingDistance c v ≡ quotientForm
 unfolding stoppingDistance
 quotient c v hc = gained-quotient v c v hc (omega arith)
 
+-- the same in one product, as the machine computes it
+abbrev pub productForm : ℕ → ℕ → ℕ
+productForm c v = (v / c) * (v + v % c) + v % c
+
+pub in-one-product : (c v : ℕ) → 1 ≤ c → stoppingDistance c v ≡ productForm c v
+in-one-product c v hc = quotient c v hc ∙ go (v / c) (v % c) (div-add-mod' v c)
+  where
+    go : (q r : ℕ) → q * c + r ≡ v → q * q * c + 2 * q * r + r ≡ q * (v + r) + r
+    go q r e = rw (← e) (omega arith)
+
 -- c × S = v² + r(c − r)
 pub product : (c v : ℕ) → 1 ≤ c → c * stoppingDistance c v ≡ v * v + (v % c) * (c - v % c)
 product c v hc = go (v / c) (v % c) (c - v % c) (div-add-mod' v c) (omega (arith, mod-lt v hc)) (quotient c v hc)

@@ -1,6 +1,6 @@
 -- The outcomes of `specs/Totals.antt` by the cases that the code tells apart.
 use mathlib.Core.Path.{_≡_, refl, sym, _∙_}
-use mathlib.Core.Bool.{Bool, true, false, cond}
+use mathlib.Core.Bool.{Bool, true, false, _&&_, cond, and-false}
 use mathlib.Core.Logic.{by-cases}
 use Prim.Native.Nat.{ℕ, _+_, _-_, _≤_, _<_}
 use native.Mathlib.Decide.{decLt}
@@ -11,7 +11,7 @@ use lib.IntN.{ℤ}
 use Rattle.headway.specs.Motion.{speedAfter, positionAfter}
 use Rattle.headway.specs.Stopping.{stoppingDistance, safeBehind}
 use Rattle.headway.specs.Wishes.{restsBehind}
-use Rattle.headway.specs.Totals.{isSpeed, movedOf, rated, safeOf, passesOf}
+use Rattle.headway.specs.Totals.{restOf, isSpeed, movedOf, rated, safeOf, restsBelow, passesOf}
 use Rattle.headway.specs.declared.Moved.the-variants.{To, Outside}
 
 -- ---- the two rates
@@ -71,6 +71,17 @@ no-arrival p v a e = go (isSpeed v a) refl e
     go true f g = absurd (let z : _≡_ {A = ℕ} 0 1 = cc in omega arith)
     go false f g = f
 
+-- ---- where a carrier rests
+
+module _ (c p v : ℕ) where
+  pub rest-at-0 : c ≡ 0 → 0 ≡ restOf c p v
+  unfolding restOf
+  rest-at-0 e = rw e refl
+
+  pub rest-is : (c ≡ 0 → ⊥) → p + stoppingDistance c v ≡ restOf c p v
+  unfolding restOf
+  rest-is h = rw (lt-ltb 0 c (omega arith)) refl
+
 -- a sum is below l if one part is below what the other leaves of l
 shifted : (x s l : ℕ) → x < l → ltb s (l - x) ≡ ltb (x + s) l
 shifted x s l h =
@@ -78,32 +89,37 @@ shifted x s l h =
     (λ k. lt-ltb s (l - x) k ∙ sym (lt-ltb (x + s) l (omega arith)))
     (λ k. le-ltb s (l - x) (omega arith) ∙ sym (le-ltb (x + s) l (omega arith)))
 
+module _ (c p v bound : ℕ) where
+  pub never-below-at-0 : c ≡ 0 → false ≡ restsBelow c p v bound
+  unfolding restsBelow
+  never-below-at-0 e = rw e refl
+
+  module _ (h : c ≡ 0 → ⊥) where
+    pub below-is : restsBelow c p v bound ≡ ltb (p + stoppingDistance c v) bound
+    unfolding restsBelow
+    below-is = rw (lt-ltb 0 c (omega arith)) refl
+
+    pub past-bound : bound ≤ p → false ≡ restsBelow c p v bound
+    past-bound k = sym (below-is ∙ le-ltb (p + stoppingDistance c v) bound (omega arith))
+
+    pub below-by-distance : p < bound → ltb (stoppingDistance c v) (bound - p) ≡ restsBelow c p v bound
+    below-by-distance k = shifted p (stoppingDistance c v) bound k ∙ sym below-is
+
+-- ---- the test of a wish
+
 module _ (b B p v : ℕ) (w : ℤ) (pL vL : ℕ) where
-  fails-unrated : rated b B ≡ false → false ≡ passesOf b B p v w pL vL
+  pub fails-outside : movedOf p v w ≡ Outside → false ≡ passesOf b B p v w pL vL
   unfolding passesOf
-  fails-unrated e = rw e refl
+  fails-outside e = rw (no-arrival p v w e) (sym (and-false (rated b B)))
 
-  pub fails-at-0 : b ≡ 0 → false ≡ passesOf b B p v w pL vL
-  fails-at-0 e = fails-unrated (no-guaranteed b B e)
-
-  pub fails-ahead-at-0 : (b ≡ 0 → ⊥) → B ≡ 0 → false ≡ passesOf b B p v w pL vL
-  fails-ahead-at-0 h e = fails-unrated (no-hardest b B h e)
-
-  module _ (hb : b ≡ 0 → ⊥) (hB : B ≡ 0 → ⊥) where
-    pub fails-outside : movedOf p v w ≡ Outside → false ≡ passesOf b B p v w pL vL
-    unfolding passesOf
-    fails-outside e = rw (two-rates b B hb hB, no-arrival p v w e) refl
-
-    module _ (x y : ℕ) (e : movedOf p v w ≡ To x y) where
-      passes-is : passesOf b B p v w pL vL ≡ ltb (x + stoppingDistance b y) (pL + stoppingDistance B vL)
-      unfolding passesOf restsBehind
-      passes-is =
-          let r = arrives p v w x y e in
-          rw (two-rates b B hb hB, r .speed, ← r .position, ← r .next) refl
-
-      pub fails-past : pL + stoppingDistance B vL ≤ x → false ≡ passesOf b B p v w pL vL
-      fails-past h = sym (passes-is ∙ le-ltb (x + stoppingDistance b y) (pL + stoppingDistance B vL) (omega arith))
-
-      pub passes-by-rest : x < pL + stoppingDistance B vL
-          → ltb (stoppingDistance b y) (pL + stoppingDistance B vL - x) ≡ passesOf b B p v w pL vL
-      passes-by-rest h = shifted x (stoppingDistance b y) (pL + stoppingDistance B vL) h ∙ sym passes-is
+  pub passes-by-rest : (x y : ℕ) → movedOf p v w ≡ To x y → restsBelow b x y (restOf B pL vL) ≡ passesOf b B p v w pL vL
+  unfolding passesOf restsBehind rated restsBelow restOf
+  passes-by-rest x y e =
+      let r = arrives p v w x y e in
+      rw (r .speed, ← r .position, ← r .next) (go (ltb 0 b) (ltb 0 B))
+    where
+      go : (s t : Bool) → s && ltb (x + stoppingDistance b y) (cond t (pL + stoppingDistance B vL) 0)
+          ≡ (s && t) && (true && ltb (x + stoppingDistance b y) (pL + stoppingDistance B vL))
+      go false t = refl
+      go true true = refl
+      go true false = le-ltb (x + stoppingDistance b y) 0 (omega arith)

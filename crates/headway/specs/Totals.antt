@@ -1,5 +1,5 @@
 -- What the functions give for every number, also those that document 01 leaves out; docs/DECISIONS.md has the reasons.
-use Prim.Native.Nat.{ℕ}
+use Prim.Native.Nat.{ℕ, _+_}
 use mathlib.Core.Bool.{Bool, _&&_, cond}
 use lib.Dec.{ltb}
 use lib.IntN.{ℤ, pos, _+ℤ_}
@@ -15,6 +15,14 @@ use Rattle.headway.specs.declared.Moved.the-variants.{To, Outside}
 -- at a rate of 0 nothing comes to rest
 unfoldable pub stopOf : ℕ → ℕ → Stop
 stopOf c v = cond (ltb 0 c) (Within (stoppingDistance c v)) Never
+
+-- where a carrier rests; at a rate of 0 it is 0, below which nobody rests
+unfoldable pub restOf : (c p v : ℕ) → ℕ
+restOf c p v = cond (ltb 0 c) (p + stoppingDistance c v) 0
+
+-- it rests below a bound; never at a rate of 0
+unfoldable pub restsBelow : (c p v bound : ℕ) → Bool
+restsBelow c p v bound = ltb 0 c && ltb (p + stoppingDistance c v) bound
 
 -- v + a is a speed if it is not negative and 32 bits hold it
 unfoldable pub isSpeed : ℕ → ℤ → Bool

@@ -1,22 +1,20 @@
 -- The lane and the road book agree after each call, if they did before, and what is claimed of a cycle run holds.
 use mathlib.Core.Path.{_≡_, refl, sym, ap, _∙_, subst}
 use mathlib.Core.Bool.{Bool, true, false, not}
-use mathlib.Core.List.{List, []}
+use mathlib.Core.List.{[]}
 use Prim.Native.Nat.{ℕ, _<_}
 use native.Mathlib.Omega.{arith}
 use borrow.Author.Tests.{eqb-true, eqb-false}
 use lib.Dec.{eqb}
 use lib.ListN.{length}
-use Rattle.wish.specs.declared.Wish.{Wish}
-use Rattle.lane.specs.declared.Carrier.{Carrier}
-use Rattle.lane.specs.declared.Lane.{Lane}
-use Rattle.lane.specs.State.{State, stateOf}
-use Rattle.lane.specs.Calls.{carrier}
-use Rattle.lane.specs.Call.{Call, start-call, enter-call, leave-call, cycle-call, read-call, text-call, callNo, callWord, callState, Kept}
-use Rattle.lane.proofs.CallLaws.{refused-changes-nothing, accepted-keeps, kept-in-order, start-accepted, enter-accepted, leave-accepted}
+use Rattle.lane.specs.State.{State}
+use Rattle.lane.specs.Layout.{Words, stateOf}
+use Rattle.lane.specs.Call.{Call, start-call, enter-call, leave-call, cycle-call, read-call, text-call, callNo, callAnswer, callState, Kept}
+use Rattle.lane.proofs.CallLaws.{refused-changes-nothing, answer-number, accepted-keeps, kept-in-order, start-accepted, enter-accepted, leave-accepted, read-accepted, text-accepted}
 use Rattle.lane.proofs.CycleLaws.{CycleRun, cycle-accepted, cycle-runs}
 use Rattle.history.specs.Book.{Book, begun, holding, taken, booked}
-use Rattle.history.specs.Claims.{InOrder, CycleClaims}
+use Rattle.history.specs.Claims.{InOrder, Kind, begins, runs, other, kindOf, CycleClaims}
+use Rattle.history.specs.History.{Wished}
 use Rattle.history.proofs.Books.{put-in, take-out}
 use Rattle.history.proofs.CycleRuns.{bookOf, run-carriers, run-never-touching, run-replaces-crossing}
 
@@ -26,108 +24,74 @@ pub data Good (s : State) : Type 0 where
   kept : Kept s → Good s
 
 pub record Agree (s : State) (b : Book) : Type 0 where
-  pub surface : s .surface ≡ b .surface
-  pub end : s .end ≡ b .end
-  pub limit : s .limit ≡ b .limit
-  pub carriers : s .carriers ≡ b .carriers
+  pub same : bookOf s ≡ b
   pub good : Good s
-
-same-book : {s : State} {b : Book} → Agree s b → bookOf s ≡ b
-same-book h = λ i. record { surface = h .surface i; end = h .end i; limit = h .limit i; carriers = h .carriers i }
-
-agrees : (s : State) (b : Book) → Good s → bookOf s ≡ b → Agree s b
-agrees s b h e =
-    record {
-      surface = ap (λ (c : Book). c .surface) e;
-      end = ap (λ (c : Book). c .end) e;
-      limit = ap (λ (c : Book). c .limit) e;
-      carriers = ap (λ (c : Book). c .carriers) e;
-      good = h;
-    }
 
 counted : {s : State} → Good s → s .count ≡ length (s .carriers)
 counted (empty e f) = rw (e, f) refl
 counted (kept h) = h .counted
 
 pub in-order : (s : State) (b : Book) → Agree s b → InOrder b
-in-order s b h = subst InOrder (same-book h) (good-order (h .good))
+in-order s b h = subst InOrder (h .same) (good-order (h .good))
   where
     good-order : Good s → InOrder (bookOf s)
     good-order (empty e f) i j p q = let q′ : j < 0 = rw f at q in absurd (omega arith)
     good-order (kept k) i j p q = kept-in-order s k i j p q
 
 -- "It begins with no carrier and with the surface, end and limit of the empty lane first handed in."
-pub begins : (l : Lane) → l .count ≡ 0 → Agree (stateOf l) (begun l)
-begins l e = record { surface = refl; end = refl; limit = refl; carriers = rw e refl; good = empty e (rw e refl) }
+pub empty-agrees : (l : Words) → stateOf l .count ≡ 0 → Agree (stateOf l) (begun l)
+empty-agrees l e =
+    let none : stateOf l .carriers ≡ [] = rw e refl in
+    record { same = ap (λ cs. record { road = stateOf l .road; carriers = cs }) none; good = empty e none }
 
 -- ---- a call, by the lane's laws
 
--- its number and, of a cycle, its word and 64 wishes
-abbrev pub Wished : Call → Type 0
-Wished (start-call surface end limit cycle) = Unit {0}
-Wished (enter-call number position speed) = Unit {0}
-Wished (leave-call number) = Unit {0}
-Wished (cycle-call count wishes) = length wishes ≡ 64
-Wished (read-call number) = Unit {0}
-Wished (text-call buffer) = Unit {0}
+-- the word that a call tells the book
+abbrev pub wordOf : Call → State → ℕ
+wordOf x s = callAnswer x s .word
 
-pub record Answered (x : Call) (s : State) (refusal word : ℕ) : Type 0 where
-  pub number : refusal ≡ callNo x s
-  pub told : word ≡ callWord x s
-  pub wished : Wished x
-
-pub record Stepped (x : Call) (s : State) (b : Book) (refused : Bool) (word : ℕ) : Type 0 where
-  pub agree : Agree (callState x s) (booked (record { call = x; refused = refused; word = word }) b)
-  pub claims : CycleClaims x refused word b
+pub record Booked (x : Call) (s : State) (b : Book) (refused : Bool) : Type 0 where
+  pub agree : Agree (callState x s) (booked (record { call = x; refused = refused; word = wordOf x s }) b)
+  pub claims : CycleClaims (kindOf x) refused (wordOf x s) b
 
 -- an accepted call does to the lane what it does to the book
-accepted-books : (x : Call) (s : State) → s .count ≡ length (s .carriers) → Wished x → callNo x s ≡ 0
-    → (bookOf (callState x s) ≡ taken x (callWord x s) (bookOf s)) × CycleClaims x false (callWord x s) (bookOf s)
+accepted-books : (x : Call) (s : State) → s .count ≡ length (s .carriers) → Wished (kindOf x) → callNo x s ≡ 0
+    → (bookOf (callState x s) ≡ taken x (wordOf x s) (bookOf s)) × CycleClaims (kindOf x) false (wordOf x s) (bookOf s)
 unfolding taken
-accepted-books (start-call surface end limit cycle) s counted w z = (ap bookOf (start-accepted s surface end limit cycle z), tt)
-accepted-books (enter-call number position speed) s counted w z =
-    let c = carrier number position speed in (
-      ap bookOf (enter-accepted s c z) ∙ ap (holding (bookOf s)) (sym (put-in c (s .carriers))),
-      tt,
-    )
+accepted-books (start-call road first) s counted w z = (ap bookOf (start-accepted s road first z), tt)
+accepted-books (enter-call c) s counted w z = (ap bookOf (enter-accepted s c z) ∙ ap (holding (bookOf s)) (sym (put-in c (s .carriers))), tt)
 accepted-books (leave-call number) s counted w z =
     (ap bookOf (leave-accepted s number z) ∙ ap (holding (bookOf s)) (sym (take-out number (s .carriers))), tt)
 accepted-books (cycle-call count wishes) s counted w z =
+    let x = cycle-call count wishes in
     let run = cycle-runs s counted count wishes w z in
-    let word = callWord (cycle-call count wishes) s in
-    let left = callState (cycle-call count wishes) s .carriers in (
-      figures ∙ ap (holding (bookOf s)) (run-carriers s wishes word left run),
-      (run-never-touching s wishes word left run, run-replaces-crossing s wishes word left run),
+    let left = callState x s .carriers in (
+      ap bookOf (cycle-accepted s count wishes z) ∙ ap (holding (bookOf s)) (run-carriers s wishes (wordOf x s) left run),
+      (run-never-touching s wishes (wordOf x s) left run, run-replaces-crossing s wishes (wordOf x s) left run),
     )
-  where
-    figures : bookOf (callState (cycle-call count wishes) s) ≡ holding (bookOf s) (callState (cycle-call count wishes) s .carriers)
-    figures = rw (cycle-accepted s counted count wishes w z) refl
-accepted-books (read-call number) s counted w z = (refl, tt)
-accepted-books (text-call buffer) s counted w z = (refl, tt)
+accepted-books (read-call number) s counted w z = (ap bookOf (read-accepted s number), tt)
+accepted-books (text-call buffer) s counted w z = (ap bookOf (text-accepted s buffer), tt)
 
 -- of a refused call nothing is claimed
-nothing-claimed : (x : Call) (word : ℕ) (b : Book) → CycleClaims x true word b
-nothing-claimed (start-call surface end limit cycle) word b = tt
-nothing-claimed (enter-call number position speed) word b = tt
-nothing-claimed (leave-call number) word b = tt
-nothing-claimed (cycle-call count wishes) word b = tt
-nothing-claimed (read-call number) word b = tt
-nothing-claimed (text-call buffer) word b = tt
+nothing-claimed : {x : Call} (k : Kind x) (word : ℕ) (b : Book) → CycleClaims k true word b
+nothing-claimed (begins road first) word b = tt
+nothing-claimed (runs count wishes) word b = tt
+nothing-claimed (other x) word b = tt
 
-settled : (x : Call) (s : State) → Wished x → Good s → Stepped x s (bookOf s) (not (eqb (callNo x s) 0)) (callWord x s)
+settled : (x : Call) (s : State) → Wished (kindOf x) → Good s → Booked x s (bookOf s) (not (eqb (callNo x s) 0))
 settled x s w h = by-test (eqb (callNo x s) 0) refl
   where
-    by-test : (t : Bool) → eqb (callNo x s) 0 ≡ t → Stepped x s (bookOf s) (not t) (callWord x s)
+    by-test : (t : Bool) → eqb (callNo x s) 0 ≡ t → Booked x s (bookOf s) (not t)
     by-test true e =
         let z = eqb-true (callNo x s) 0 e in
         let a = accepted-books x s (counted h) w z in
-        record { agree = agrees (callState x s) (taken x (callWord x s) (bookOf s)) (kept (accepted-keeps x s (counted h) z)) (a .0); claims = a .1 }
+        record { agree = record { same = a .0; good = kept (accepted-keeps x s (counted h) z) }; claims = a .1 }
     by-test false e =
         record {
-          agree = rw (refused-changes-nothing x s (eqb-false (callNo x s) 0 e)) (agrees s (bookOf s) h refl);
-          claims = nothing-claimed x (callWord x s) (bookOf s);
+          agree = rw (refused-changes-nothing x s (eqb-false (callNo x s) 0 e)) (record { same = refl; good = h });
+          claims = nothing-claimed (kindOf x) (wordOf x s) (bookOf s);
         }
 
-pub step : (x : Call) (s : State) (b : Book) (refusal word : ℕ) → Answered x s refusal word → Agree s b → Stepped x s b (not (eqb refusal 0)) word
-step x s b refusal word a h =
-    rw (a .number, a .told) (subst (λ (c : Book). Stepped x s c (not (eqb (callNo x s) 0)) (callWord x s)) (same-book h) (settled x s (a .wished) (h .good)))
+pub step : (x : Call) (s : State) (b : Book) → Wished (kindOf x) → Agree s b → Booked x s b (not (eqb (callAnswer x s .number) 0))
+step x s b w h =
+    rw (answer-number x s) (subst (λ (c : Book). Booked x s c (not (eqb (callNo x s) 0))) (h .same) (settled x s w (h .good)))

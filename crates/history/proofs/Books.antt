@@ -14,8 +14,8 @@ use Rattle.headway.specs.Stopping.{braking}
 use Rattle.wish.specs.declared.Wish.{Wish}
 use Rattle.wish.specs.declared.Wish.the-variants.{Hold}
 use Rattle.lane.specs.declared.Carrier.{Carrier}
-use Rattle.lane.specs.Surface.{rowOf}
-use Rattle.lane.specs.Safety.{firstPlace, numbered}
+use Rattle.lane.specs.Surface.{rowIn}
+use Rattle.lane.specs.Safety.{guaranteedRate, firstPlace, numbered}
 use Rattle.lane.specs.Calls.{none, insertAt, placeOf, removeAt}
 use Rattle.lane.proofs.CallLaws.{place-nobody, place-here, place-further}
 use Rattle.lane.proofs.CycleLaws.{Drove, nobody-drives, stays-on, is-gone}
@@ -59,7 +59,7 @@ module _ (b : Book) where
   -- what the carrier at a place drives goes by the word's bit of that place
   pub driven-at : (word : ℕ) (cs : List Carrier) (ws : List Wish) (i : ℕ) → i < length cs → length cs ≤ length ws
       → getD (drivenIn b word cs ws) i (pos 0)
-      ≡ cond (isReplaced word i) (braking (rowOf (b .surface) .guaranteed) (getD cs i none .speed)) (trimmedIn b (getD cs i none) (getD ws i Hold))
+      ≡ cond (isReplaced word i) (braking (guaranteedRate (rowIn (b .road)) (getD cs i none)) (getD cs i none .speed)) (trimmedIn b (getD cs i none) (getD ws i Hold))
   unfolding drivenIn
   driven-at word [] ws i p h = absurd (omega arith)
   driven-at word (c ∷ cs) [] i p h = absurd (omega arith)

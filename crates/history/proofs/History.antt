@@ -1,16 +1,19 @@
 -- Demand 3, whole: `history`, one theorem over every list of calls. Its words are those of `specs`; a call's answer is what the called
 -- function's own contract says of it.
-use Prim.Native.Nat.{ℕ}
-use mathlib.Core.Path.{_≡_, sym, subst}
+use Prim.Native.Nat.{ℕ, _≤_}
+use native.Mathlib.Omega.{arith}
+use mathlib.Core.Path.{_≡_, refl, sym, ap, subst}
+use mathlib.Core.Bool.{not}
 use mathlib.Core.List.{List}
 use contract.Lifetimes.{Lfts}
-use denote.Ref.{RefT}
+use denote.Ref.{RefT, now}
+use lib.Dec.{eqb}
 use Rattle.wish.specs.declared.Wish.{Wish}
-use Rattle.lane.specs.declared.Lane.{Lane}
-use Rattle.lane.specs.State.{State, stateOf}
-use Rattle.lane.specs.Call.{Call, start-call, enter-call, leave-call, cycle-call, read-call, text-call, callState}
-use Rattle.lane.specs.Gives.{Lists, Reply, Gives, laneAfter, numberOf, wordIn}
-use Rattle.lane.proofs.CallLaws.{gives-number, gives-word, gives-state}
+use Rattle.lane.specs.declared.Carrier.{Carrier}
+use Rattle.lane.specs.declared.Road.{Road}
+use Rattle.lane.specs.State.{State}
+use Rattle.lane.specs.Layout.{Words, stateOf}
+use Rattle.lane.specs.Call.{Call, start-call, enter-call, leave-call, cycle-call, read-call, text-call, Answer, callAnswer, Gives}
 use Rattle.lane.proofs.start.Reads as start-reads
 use Rattle.lane.proofs.enter.Reads as enter-reads
 use Rattle.lane.proofs.leave.Reads as leave-reads
@@ -18,49 +21,67 @@ use Rattle.lane.proofs.cycle.Reads as cycle-reads
 use Rattle.lane.proofs.read.Reads as read-reads
 use Rattle.lane.proofs.lane_text.Reads as text-reads
 use Rattle.history.specs.Book.{Book, begun, booked}
-use Rattle.history.specs.Claims.{Claims}
-use Rattle.history.specs.History.{Entry, seen, Did, Ran, none-yet, then, Throughout}
-use Rattle.history.proofs.Agreement.{Agree, in-order, begins, Wished, Answered, step}
+use Rattle.history.specs.Claims.{kindOf, Claims}
+use Rattle.history.specs.History.{Event, seen, Did, Ran, none-yet, then, Wished, Chain, chain-end, chain-next, Throughout}
+use Rattle.history.proofs.Agreement.{Agree, in-order, empty-agrees, step}
 
 -- no contract asks anything of its caller
-pub may : (l : Lane) (a b c d : ℕ) (ws : List Wish) (κs : Lfts 1) (out : RefT (List ℕ))
-    → start-reads.Asked tt (l, (a, (b, (c, (d, tt))))) × enter-reads.Asked tt (l, (a, (b, (c, tt)))) × leave-reads.Asked tt (l, (a, tt))
-    × cycle-reads.Asked tt (l, (a, (ws, tt))) × read-reads.Asked tt (l, (a, tt)) × text-reads.Asked κs (l, (out, tt))
-may l a b c d ws κs out = (tt, tt, tt, tt, tt, tt)
+pub may : (κ : Lfts 1) (κs : Lfts 2) (l : RefT Words) (road : Road) (c : Carrier) (n : ℕ) (ws : List Wish) (out : RefT (List ℕ))
+    → start-reads.Asked κ (l, (road, (n, tt))) × enter-reads.Asked κ (l, (c, tt)) × leave-reads.Asked κ (l, (n, tt))
+    × cycle-reads.Asked κ (l, (n, (ws, tt))) × read-reads.Asked κ (l, (n, tt)) × text-reads.Asked κs (l, (out, tt))
+may κ κs l road c n ws out = (tt, tt, tt, tt, tt, tt)
 
--- a contract says what the call gives, of a cycle with 64 wishes
-gives : (x : Call) (l : Lane) (a : Reply x) → Did x l a → Gives x l a × Wished x
-gives (start-call surface end limit cycle) l a d = (d, tt)
-gives (enter-call number position speed) l a d = (d, tt)
-gives (leave-call number) l a d = (d, tt)
-gives (cycle-call count wishes) l a d = (d .1, d .0)
-gives (read-call number) l a d = (d, tt)
-gives (text-call buffer) l a d = (subst (λ (b : List ℕ). Lists l b (a .listed) (a .bytes)) (d .before) (d .says), tt)
+-- ---- a contract says what the call gives
 
--- and so the number, the word and the state afterwards
-pub answered : (x : Call) (l : Lane) (a : Reply x) → Did x l a
-    → Answered x (stateOf l) (numberOf x a) (wordIn x a) × (stateOf (laneAfter x l a) ≡ callState x (stateOf l))
-answered x l a d =
-    let g = gives x l a d in
-    (record { number = gives-number l x a (g .0); told = gives-word l x a (g .0); wished = g .1 }, gives-state l x a (g .0))
+module _ {x : Call} where
+  pub given-of : {k l m : Words} {a b : Answer} → k ≡ l → a ≡ b → Gives x k b m → Gives x l a m
+  given-of {k} {m = m} {a} e f g = subst (λ (l : Words). Gives x l a m) e (subst (λ (c : Answer). Gives x k c m) (sym f) g)
 
-one-call : (e : Entry) (l : Lane) (b : Book) → Did (e .call) l (e .reply) → Agree (stateOf l) b
-    → Agree (stateOf (laneAfter (e .call) l (e .reply))) (booked (seen e) b) × Claims (laneAfter (e .call) l (e .reply)) (seen e) b
-one-call e l b d h =
-    let r = answered (e .call) l (e .reply) d in
-    let s = step (e .call) (stateOf l) b (numberOf (e .call) (e .reply)) (wordIn (e .call) (e .reply)) (r .0) h in
-    let g : Agree (stateOf (laneAfter (e .call) l (e .reply))) (booked (seen e) b) =
-    subst (λ (t : State). Agree t (booked (seen e) b)) (sym (r .1)) (s .agree)
-    in
-    (g, record { carriers = g .carriers; order = in-order _ _ g; cycle-run = s .claims })
+  -- of a call that only reads
+  pub read-of : {k l m : Words} {a b : Answer} → m ≡ l → k ≡ l → a ≡ b → Gives x k b k → Gives x l a m
+  read-of {k} {l} {a = a} same e f g =
+      subst (λ (m : Words). Gives x l a m) (sym same) (subst (λ (l : Words). Gives x l a l) e (subst (λ (c : Answer). Gives x k c k) (sym f) g))
 
-throughout : {l d : Lane} {es : List Entry} (b : Book) → Agree (stateOf l) b → Ran l es d → Throughout l b es
-throughout b h none-yet = tt
-throughout {l} b h (then {e = e} d t) =
-    let c = one-call e l b d h in
-    (c .1, throughout (booked (seen e) b) (c .0) t)
+gives : (x : Call) (l : Words) (a : Answer) (m : Words) → Did x l a m → Gives x l a m × Wished (kindOf x)
+gives (start-call road first) l a m d = (given-of (d .before) (d .says .1) (d .says .2), tt)
+gives (enter-call c) l a m d = (given-of (d .before) (d .says .1) (d .says .2), tt)
+gives (leave-call number) l a m d = (given-of (d .before) (d .says .1) (d .says .2), tt)
+gives (cycle-call count wishes) l a m d = (given-of (d .1 .before) (d .1 .says .1) (d .1 .says .2), λ h. omega (arith, d .0))
+gives (read-call number) l a m d = (read-of (d .0) (d .1 .before) (d .1 .says .1) (d .1 .says .2 .0), tt)
+gives (text-call buffer) l a m d =
+    let g = d .1 .says .2 in
+    (subst (λ (b : List ℕ). Gives (text-call b) l a m) (d .1 .lent) (read-of (d .0) (d .1 .before) (d .1 .says .1) g), tt)
+
+pub ran-gives : {l d : Words} {es : List Event} → Ran l es d → Chain l es d
+ran-gives none-yet = chain-end
+ran-gives {l} (then {e = e} h r) = let g = gives (e .call) l (e .answer) (e .left) h in chain-next (g .0) (g .1) (ran-gives r)
+
+-- ---- and so what is claimed of it
+
+one-call : (e : Event) (l : Words) (b : Book) → Gives (e .call) l (e .answer) (e .left) → Wished (kindOf (e .call)) → Agree (stateOf l) b
+    → Agree (stateOf (e .left)) (booked (seen e) b) × Claims (e .left) (seen e) b
+one-call e l b g w h =
+    let s = step (e .call) (stateOf l) b w h in
+    let agree : Agree (stateOf (e .left)) (booked (seen e) b) = rw (g .state, g .answer) (s .agree) in (
+      agree,
+      record {
+        carriers = ap (λ (c : Book). c .carriers) (agree .same);
+        order = in-order _ _ agree;
+        cycle-run = rw (g .answer) (s .claims);
+      },
+    )
+
+pub throughout : {l d : Words} {es : List Event} (b : Book) → Agree (stateOf l) b → Chain l es d → Throughout b es
+throughout b h chain-end = tt
+throughout {l} b h (chain-next {e = e} g w r) =
+    let c = one-call e l b g w h in
+    (c .1, throughout (booked (seen e) b) (c .0) r)
+
+-- the theorem, of calls that give what the lane's do
+pub chain-history : (l : Words) → stateOf l .count ≡ 0 → (es : List Event) (d : Words) → Chain l es d → Throughout (begun l) es
+chain-history l e es d r = throughout (begun l) (empty-agrees l e) r
 
 -- THE THEOREM: "For every list of calls from an empty lane, started or not, refused calls included, each working on the lane that the
--- last one left", whatever the empty lane's other fields are
-pub history : (l : Lane) → l .count ≡ 0 → (es : List Entry) (d : Lane) → Ran l es d → Throughout l (begun l) es
-history l e es d r = throughout (begun l) (begins l e) r
+-- last one left", whatever the empty lane's other words are
+pub history : (l : Words) → stateOf l .count ≡ 0 → (es : List Event) (d : Words) → Ran l es d → Throughout (begun l) es
+history l e es d r = chain-history l e es d (ran-gives r)

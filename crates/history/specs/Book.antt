@@ -12,8 +12,10 @@ use Rattle.wish.specs.declared.Converted.{Converted}
 use Rattle.wish.specs.declared.Converted.the-variants.{Units, Outside}
 use Rattle.wish.specs.declared.Wish.{Wish}
 use Rattle.lane.specs.declared.Carrier.{Carrier}
-use Rattle.lane.specs.declared.Lane.{Lane}
-use Rattle.lane.specs.Surface.{rowOf}
+use Rattle.lane.specs.declared.Road.{Road}
+use Rattle.lane.specs.Surface.{rowIn}
+use Rattle.lane.specs.Safety.{guaranteedRate}
+use Rattle.lane.specs.Layout.{Words, stateOf}
 use Rattle.lane.specs.Call.{Call, start-call, enter-call, leave-call, cycle-call, read-call, text-call}
 
 -- "It is fed with each call with its arguments and, of the answers, only whether the call was refused and a cycle's word."
@@ -24,18 +26,16 @@ pub record Seen : Type 0 where
 
 -- "It holds surface, end, limit and the carriers front to back, each with number, position and speed."
 pub record Book : Type 0 where
-  pub surface : ℕ
-  pub end : ℕ
-  pub limit : ℕ
+  pub road : Road
   pub carriers : List Carrier
 
 -- "It begins with no carrier and with the surface, end and limit of the empty lane first handed in."
-abbrev pub begun : Lane → Book
-begun l = record { surface = l .surface; end = l .end; limit = l .limit; carriers = [] }
+abbrev pub begun : Words → Book
+begun l = record { road = stateOf l .road; carriers = [] }
 
 -- the book with other carriers
 abbrev pub holding : Book → List Carrier → Book
-holding b cs = record { surface = b .surface; end = b .end; limit = b .limit; carriers = cs }
+holding b cs = record { road = b .road; carriers = cs }
 
 -- "Enter: the carrier goes in as given, where the walk over the book ends."
 unfoldable pub putIn : Carrier → List Carrier → List Carrier
@@ -55,14 +55,14 @@ unitsFrom Outside = pos 0
 -- "wish i, made into units and trimmed with the book's figures"
 unfoldable pub trimmedIn : Book → Carrier → Wish → ℤ
 trimmedIn b c w =
-    trimmedTo (unitsFrom (unitsOf w (c .speed))) (c .speed) (rowOf (b .surface) .hardest) (rowOf (b .surface) .most) (b .limit)
+    trimmedTo (unitsFrom (unitsOf w (c .speed))) (c .speed) (rowIn (b .road) .hardest) (rowIn (b .road) .most) (b .road .limit)
 
 -- "or −(smaller of b and v) where bit i is set": the accelerations of the carriers, front to back; place 0 has the lowest bit
 unfoldable pub drivenIn : Book → (word : ℕ) → List Carrier → List Wish → List ℤ
 drivenIn b word [] ws = []
 drivenIn b word (c ∷ cs) [] = []
 drivenIn b word (c ∷ cs) (w ∷ ws) =
-    cond (eqb (word % 2) 1) (braking (rowOf (b .surface) .guaranteed) (c .speed)) (trimmedIn b c w)
+    cond (eqb (word % 2) 1) (braking (guaranteedRate (rowIn (b .road)) c) (c .speed)) (trimmedIn b c w)
     ∷ drivenIn b (word / 2) cs ws
 
 -- "Cycle: carrier i drives"; "After the whole cycle, whoever is at or past the end comes out."
@@ -76,12 +76,11 @@ drivenOn end (c ∷ cs) (d ∷ ds) =
 
 -- the step of a call that is not refused; "Start: it takes surface, end and limit and drops all carriers."
 unfoldable pub taken : Call → (word : ℕ) → Book → Book
-taken (start-call surface end limit cycle) word b = record { surface = surface; end = end; limit = limit; carriers = [] }
-taken (enter-call number position speed) word b =
-    holding b (putIn (record { number = number; position = position; speed = speed }) (b .carriers))
+taken (start-call road first) word b = record { road = road; carriers = [] }
+taken (enter-call c) word b = holding b (putIn c (b .carriers))
 taken (leave-call number) word b = holding b (takeOut number (b .carriers))
 taken (cycle-call count wishes) word b =
-    holding b (drivenOn (b .end) (b .carriers) (drivenIn b word (b .carriers) wishes))
+    holding b (drivenOn (b .road .end) (b .carriers) (drivenIn b word (b .carriers) wishes))
 taken (read-call number) word b = b
 taken (text-call buffer) word b = b
 

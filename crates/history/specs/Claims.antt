@@ -12,9 +12,10 @@ use Rattle.headway.specs.Wishes.{restsBehind}
 use Rattle.wish.specs.declared.Wish.{Wish}
 use Rattle.wish.specs.declared.Wish.the-variants.{Hold}
 use Rattle.lane.specs.declared.Carrier.{Carrier}
-use Rattle.lane.specs.declared.Lane.{Lane}
-use Rattle.lane.specs.Surface.{rowOf}
-use Rattle.lane.specs.State.{stateOf}
+use Rattle.lane.specs.declared.Road.{Road}
+use Rattle.lane.specs.Surface.{rowIn}
+use Rattle.lane.specs.Layout.{Words, stateOf}
+use Rattle.lane.specs.Safety.{guaranteedRate, reachTo}
 use Rattle.lane.specs.Calls.{none}
 use Rattle.lane.specs.Call.{Call, start-call, enter-call, leave-call, cycle-call, read-call, text-call}
 use Rattle.history.specs.Book.{Seen, Book, trimmedIn, drivenIn, booked}
@@ -25,7 +26,7 @@ carrierAt b i = getD (b .carriers) i none
 
 -- "in the book each carrier is below every one ahead after each call"
 abbrev pub InOrder : Book → Type 0
-InOrder b = (i j : ℕ) → i < j → j < length (b .carriers) → carrierAt b j .position < carrierAt b i .position
+InOrder b = (i j : ℕ) → i < j → j < length (b .carriers) → reachTo (carrierAt b i) (carrierAt b j) < carrierAt b i .position
 
 -- n² times the position of the carrier at place i after k/n of the cycle: "At k/n it is where Units puts it."
 abbrev pub placeAt : Book → (word : ℕ) → List Wish → (n k i : ℕ) → ℤ
@@ -46,7 +47,7 @@ restsLevelOrCrossed b ws i =
     let ahead = carrierAt b (i - 1) in
     ltb 0 i
     && (ltb i (length (b .carriers))
-    && not (restsBehind (rowOf (b .surface) .guaranteed) (rowOf (b .surface) .hardest) (c .position) (c .speed) (trimmedIn b c (getD ws i Hold)) (ahead .position) (ahead .speed)))
+    && not (restsBehind (guaranteedRate (rowIn (b .road)) c) (rowIn (b .road) .hardest) (reachTo ahead c) (c .speed) (trimmedIn b c (getD ws i Hold)) (ahead .position) (ahead .speed)))
 
 -- "Replaced means that the wish's bit is set."
 abbrev pub isReplaced : (word i : ℕ) → Bool
@@ -56,19 +57,30 @@ isReplaced word i = eqb (word / 2 ^ i % 2) 1
 abbrev pub ReplacedWhenCrossing : Book → (word : ℕ) → List Wish → Type 0
 ReplacedWhenCrossing b word ws = (i : ℕ) → isReplaced word i ≡ restsLevelOrCrossed b ws i
 
+-- what kind a call is of: a start, a cycle, or another
+pub data Kind : Call → Type 0 where
+  begins : (road : Road) → (first : ℕ) → Kind (start-call road first)
+  runs : (count : ℕ) → (wishes : List Wish) → Kind (cycle-call count wishes)
+  other : (x : Call) → Kind x
+
+abbrev pub kindOf : (x : Call) → Kind x
+kindOf (start-call road first) = begins road first
+kindOf (enter-call c) = other (enter-call c)
+kindOf (leave-call number) = other (leave-call number)
+kindOf (cycle-call count ws) = runs count ws
+kindOf (read-call number) = other (read-call number)
+kindOf (text-call buffer) = other (text-call buffer)
+
 -- "A cycle run is one not refused." What is claimed of it, with the book as at its start
-abbrev pub CycleClaims : Call → (refused : Bool) → (word : ℕ) → Book → Type 0
-CycleClaims (start-call surface end limit cycle) refused word b = Unit {0}
-CycleClaims (enter-call number position speed) refused word b = Unit {0}
-CycleClaims (leave-call number) refused word b = Unit {0}
-CycleClaims (cycle-call count ws) true word b = Unit {0}
-CycleClaims (cycle-call count ws) false word b = NeverTouching b word ws × ReplacedWhenCrossing b word ws
-CycleClaims (read-call number) refused word b = Unit {0}
-CycleClaims (text-call buffer) refused word b = Unit {0}
+abbrev pub CycleClaims : {x : Call} → Kind x → (refused : Bool) → (word : ℕ) → Book → Type 0
+CycleClaims (begins road first) refused word b = Unit {0}
+CycleClaims (runs count ws) true word b = Unit {0}
+CycleClaims (runs count ws) false word b = NeverTouching b word ws × ReplacedWhenCrossing b word ws
+CycleClaims (other x) refused word b = Unit {0}
 
 -- what is claimed of a call that left the lane `after`, with the book as it was before
-pub record Claims (after : Lane) (s : Seen) (b : Book) : Type 0 where
+pub record Claims (after : Words) (s : Seen) (b : Book) : Type 0 where
   -- "the lane's carriers are those of 01's road book after each call"
   pub carriers : stateOf after .carriers ≡ booked s b .carriers
   pub order : InOrder (booked s b)
-  pub cycle-run : CycleClaims (s .call) (s .refused) (s .word) b
+  pub cycle-run : CycleClaims (kindOf (s .call)) (s .refused) (s .word) b

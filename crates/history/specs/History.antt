@@ -1,5 +1,5 @@
--- A history: calls with what they gave, each on the lane that the one before returned or left, and demand 3 along it.
-use Prim.Native.Nat.{ℕ}
+-- A history: calls with what they answered and the lane that each left, each on the lane that the one before left, and demand 3 along it.
+use Prim.Native.Nat.{ℕ, _≤_}
 use mathlib.Core.Path.{_≡_}
 use mathlib.Core.Bool.{Bool, true, false, not, _&&_, _||_}
 use mathlib.Core.List.{List, [], _∷_}
@@ -7,9 +7,12 @@ use contract.Lifetimes.{Lfts}
 use denote.Ref.{RefT, now, at-last}
 use lib.Dec.{eqb}
 use lib.ListN.{length}
-use Rattle.lane.specs.declared.Lane.{Lane}
-use Rattle.lane.specs.Gives.{Told, Reply, laneAfter, numberOf, wordIn}
-use Rattle.lane.specs.Call.{Call, start-call, enter-call, leave-call, cycle-call, read-call, text-call}
+use Rattle.lane.specs.declared.Cycled.{Cycled}
+use Rattle.lane.specs.declared.Entered.{Entered}
+use Rattle.lane.specs.declared.Listed.{Listed}
+use Rattle.lane.specs.declared.ReadOut.{ReadOut}
+use Rattle.lane.specs.Layout.{Words}
+use Rattle.lane.specs.Call.{Call, start-call, enter-call, leave-call, cycle-call, read-call, text-call, Answer, bare, entered, cycled, readOut, listed, Gives}
 use Rattle.lane.proofs.start.Reads as start-reads
 use Rattle.lane.proofs.enter.Reads as enter-reads
 use Rattle.lane.proofs.leave.Reads as leave-reads
@@ -17,65 +20,89 @@ use Rattle.lane.proofs.cycle.Reads as cycle-reads
 use Rattle.lane.proofs.read.Reads as read-reads
 use Rattle.lane.proofs.lane_text.Reads as text-reads
 use Rattle.history.specs.Book.{Seen, Book, booked}
-use Rattle.history.specs.Claims.{Claims}
+use Rattle.history.specs.Claims.{Kind, begins, runs, other, kindOf, Claims}
 
--- a call and what it gave
-pub record Entry : Type 0 where
+-- a call, what it answered and the lane that it left
+pub record Event : Type 0 where
   pub call : Call
-  pub reply : Reply call
+  pub answer : Answer
+  pub left : Words
 
 -- what the book sees of it
-abbrev pub seen : Entry → Seen
-seen e =
-    record { call = e .call; refused = not (eqb (numberOf (e .call) (e .reply)) 0); word = wordIn (e .call) (e .reply) }
+abbrev pub seen : Event → Seen
+seen e = record { call = e .call; refused = not (eqb (e .answer .number) 0); word = e .answer .word }
 
--- what the contract of `lane_text` says of a lent reference with these bytes behind it before the call, and of those behind it after
-pub record Lent (l : Lane) (buffer : List ℕ) (a : Told) : Type 0 where
+-- ---- what a contract says of a call
+
+-- a reference to a lane with these words behind it before the call, and what is said of it
+pub record OfLane (l : Words) (Says : Lfts 1 → RefT Words → Type 0) : Type 0 where
   pub κs : Lfts 1
+  pub lane : RefT Words
+  pub before : now lane ≡ l
+  pub says : Says κs lane
+
+-- one to a lane and one to a buffer
+pub record OfBoth (l : Words) (buffer : List ℕ) (Says : Lfts 2 → RefT Words → RefT (List ℕ) → Type 0) : Type 0 where
+  pub κs : Lfts 2
+  pub lane : RefT Words
   pub out : RefT (List ℕ)
-  pub before : now out ≡ buffer
-  pub says : text-reads.Learnt κs (l, (out, tt)) (a .listed) (l, (at-last out (a .bytes), tt))
+  pub before : now lane ≡ l
+  pub lent : now out ≡ buffer
+  pub says : Says κs lane out
 
--- what the contract of the function called says of its arguments and its answer; the wishes are an array of 64
-abbrev pub Did : (x : Call) → Lane → Reply x → Type 0
-Did (start-call surface end limit cycle) l a =
-    start-reads.Learnt tt (l, (surface, (end, (limit, (cycle, tt))))) a (l, (surface, (end, (limit, (cycle, tt)))))
-Did (enter-call number position speed) l a =
-    enter-reads.Learnt tt (l, (number, (position, (speed, tt)))) a (l, (number, (position, (speed, tt))))
-Did (leave-call number) l a = leave-reads.Learnt tt (l, (number, tt)) a (l, (number, tt))
-Did (cycle-call count wishes) l a =
-    (length wishes ≡ 64) × cycle-reads.Learnt tt (l, (count, (wishes, tt))) a (l, (count, (wishes, tt)))
-Did (read-call number) l a = read-reads.Learnt tt (l, (number, tt)) a (l, (number, tt))
-Did (text-call buffer) l a = Lent l buffer a
+-- what the contract of the function called says of its arguments, its answer and the lane that it left; the wishes are an array of 64
+abbrev pub Did : Call → Words → Answer → Words → Type 0
+Did (start-call road first) l a m =
+    OfLane l λ κs lane. (no : ℕ) × (a ≡ bare no []) × start-reads.Learnt κs (lane, (road, (first, tt))) no (at-last lane m, (road, (first, tt)))
+Did (enter-call c) l a m =
+    OfLane l λ κs lane. (r : Entered) × (a ≡ entered r) × enter-reads.Learnt κs (lane, (c, tt)) r (at-last lane m, (c, tt))
+Did (leave-call number) l a m =
+    OfLane l λ κs lane. (no : ℕ) × (a ≡ bare no []) × leave-reads.Learnt κs (lane, (number, tt)) no (at-last lane m, (number, tt))
+Did (cycle-call count wishes) l a m =
+    (length wishes ≡ 64)
+    × OfLane l (λ κs lane. (r : Cycled) × (a ≡ cycled r) × cycle-reads.Learnt κs (lane, (count, (wishes, tt))) r (at-last lane m, (count, (wishes, tt))))
+Did (read-call number) l a m =
+    (m ≡ l) × OfLane l (λ κs lane. (r : ReadOut) × (a ≡ readOut r) × read-reads.Learnt κs (lane, (number, tt)) r (lane, (number, tt)))
+Did (text-call buffer) l a m =
+    (m ≡ l)
+    × OfBoth l buffer (λ κs lane out. (r : Listed) × (a ≡ listed r (a .bytes)) × text-reads.Learnt κs (lane, (out, tt)) r (lane, (at-last out (a .bytes), tt)))
 
--- a list of calls, each on the lane that the one before returned or left, each answered as its contract says
-pub data Ran : Lane → List Entry → Lane → Type 0 where
-  none-yet : {l : Lane} → Ran l [] l
-  then : {l d : Lane} {e : Entry} {es : List Entry} → Did (e .call) l (e .reply) → Ran (laneAfter (e .call) l (e .reply)) es d
-      → Ran l (e ∷ es) d
+-- a list of calls, each on the lane that the one before left, each answered as its contract says
+pub data Ran : Words → List Event → Words → Type 0 where
+  none-yet : {l : Words} → Ran l [] l
+  then : {l d : Words} {e : Event} {es : List Event} → Did (e .call) l (e .answer) (e .left) → Ran (e .left) es d → Ran l (e ∷ es) d
 
--- demand 3 after each call, from the lane l and the book b on
-abbrev pub Throughout : Lane → Book → List Entry → Type 0
-Throughout l b [] = Unit {0}
-Throughout l b (e ∷ es) =
-    Claims (laneAfter (e .call) l (e .reply)) (seen e) b
-    × Throughout (laneAfter (e .call) l (e .reply)) (booked (seen e) b) es
+-- ---- the same by what a call gives, whichever function makes it
+
+-- a cycle has as many wishes as it counts
+abbrev pub Wished : {x : Call} → Kind x → Type 0
+Wished (begins road first) = Unit {0}
+Wished (runs count wishes) = count ≤ 64 → count ≤ length wishes
+Wished (other x) = Unit {0}
+
+pub data Chain : Words → List Event → Words → Type 0 where
+  chain-end : {l : Words} → Chain l [] l
+  chain-next : {l d : Words} {e : Event} {es : List Event} → Gives (e .call) l (e .answer) (e .left) → Wished (kindOf (e .call)) → Chain (e .left) es d
+      → Chain l (e ∷ es) d
+
+-- ---- what holds along it
+
+-- demand 3 after each call, from the book b on
+abbrev pub Throughout : Book → List Event → Type 0
+Throughout b [] = Unit {0}
+Throughout b (e ∷ es) = Claims (e .left) (seen e) b × Throughout (booked (seen e) b) es
+
+-- the call is a start
+abbrev pub isStart : {x : Call} → Kind x → Bool
+isStart (begins road first) = true
+isStart (runs count wishes) = false
+isStart (other x) = false
 
 -- an accepted start
-abbrev pub isStart : Call → Bool
-isStart (start-call surface end limit cycle) = true
-isStart (enter-call number position speed) = false
-isStart (leave-call number) = false
-isStart (cycle-call count wishes) = false
-isStart (read-call number) = false
-isStart (text-call buffer) = false
-
--- the call is one
-abbrev pub startsLane : Entry → Bool
-startsLane e = isStart (e .call) && eqb (numberOf (e .call) (e .reply)) 0
+abbrev pub startsLane : Event → Bool
+startsLane e = isStart (kindOf (e .call)) && eqb (e .answer .number) 0
 
 -- "21 never started, or the lane handed in breaks a rule of this paper": once a start was accepted, no call gives it
-abbrev pub NeverBroken : (started : Bool) → List Entry → Type 0
+abbrev pub NeverBroken : (started : Bool) → List Event → Type 0
 NeverBroken started [] = Unit {0}
-NeverBroken started (e ∷ es) =
-    (started ≡ true → ¬ (numberOf (e .call) (e .reply) ≡ 21)) × NeverBroken (started || startsLane e) es
+NeverBroken started (e ∷ es) = (started ≡ true → ¬ (e .answer .number ≡ 21)) × NeverBroken (started || startsLane e) es

@@ -1,25 +1,23 @@
 -- The theorem over histories, of the functions that a host calls: each is a call of the lane's history by its own contract, but for a cycle
 -- whose wishes cannot be made, which leaves the lane as it was and is no call of the lane.
-use mathlib.Core.Path.{_≡_, refl, ap, subst}
-use mathlib.Core.Bool.{Bool, true, false, cond}
-use mathlib.Core.List.{List, [], _∷_, _++_}
+use mathlib.Core.Path.{_≡_, sym, _∙_, subst}
+use mathlib.Core.List.{List, [], _∷_}
 use Prim.Native.Nat.{ℕ}
-use borrow.Author.Tests.{eqb-true, eqb-false}
 use contract.Lifetimes.{Lfts}
 use denote.Ref.{RefT, now, at-last}
-use lib.Dec.{eqb}
-use Rattle.lane.specs.declared.Changed.{Changed}
+use Rattle.wish.specs.declared.Wish.{Wish}
 use Rattle.lane.specs.declared.Cycled.{Cycled}
 use Rattle.lane.specs.declared.Entered.{Entered}
-use Rattle.lane.specs.declared.Lane.{Lane}
+use Rattle.lane.specs.declared.Listed.{Listed}
 use Rattle.lane.specs.declared.ReadOut.{ReadOut}
-use Rattle.lane.specs.Call.{start-call, enter-call, leave-call, cycle-call, read-call, text-call}
-use Rattle.lane.specs.Gives.{Told}
+use Rattle.lane.specs.Layout.{Words, stateOf}
+use Rattle.lane.specs.Call.{Call, start-call, enter-call, leave-call, cycle-call, read-call, text-call, Answer, bare, entered, cycled, readOut, listed, Gives}
+use Rattle.lane.specs.Given.{wishesNo, wishesGiven}
+use Rattle.lane.proofs.Laws.{wishes-enough}
 use Rattle.history.specs.Book.{begun}
-use Rattle.history.specs.History.{Entry, Ran, none-yet, then, Throughout}
-use Rattle.history.proofs.History.{history}
-use Rattle.host.specs.Wishes.{wishesNo, wishesOf}
-use Rattle.host.proofs.Making.{sixty-four}
+use Rattle.history.specs.Claims.{kindOf}
+use Rattle.history.specs.History.{Event, OfLane, OfBoth, Wished, Chain, chain-end, chain-next, Throughout}
+use Rattle.history.proofs.History.{given-of, read-of, chain-history}
 use Rattle.host.proofs.rondavitse_start.Reads as start-reads
 use Rattle.host.proofs.rondavitse_enter.Reads as enter-reads
 use Rattle.host.proofs.rondavitse_leave.Reads as leave-reads
@@ -27,57 +25,59 @@ use Rattle.host.proofs.rondavitse_cycle.Reads as cycle-reads
 use Rattle.host.proofs.rondavitse_read.Reads as read-reads
 use Rattle.host.proofs.rondavitse_lane_text.Reads as text-reads
 
--- the call of the lane that an exported cycle is, if it is one
-abbrev pub cycleOf : (count : ℕ) → (sorts values : List ℕ) → Cycled → List Entry
-cycleOf count sorts values a =
-    cond (eqb (wishesNo count sorts values) 0) (record { call = cycle-call count (wishesOf count sorts values); reply = a } ∷ []) []
+-- what the contract of `rondavitse_cycle` says of a lane and two arrays of numbers behind references
+pub record Cycles (l : Words) (count : ℕ) (a : Answer) (m : Words) : Type 0 where
+  pub κs : Lfts 3
+  pub lane : RefT Words
+  pub sorts : RefT (List ℕ)
+  pub values : RefT (List ℕ)
+  pub before : now lane ≡ l
+  pub r : Cycled
+  pub answer : a ≡ cycled r
+  pub says : cycle-reads.Learnt κs (lane, (count, (sorts, (values, tt)))) r (at-last lane m, (count, (sorts, (values, tt))))
 
--- a list of exported calls, each on the lane that the one before returned or left and answered as its contract says, and the calls of the
--- lane that they are
-pub data HostRan : Lane → List Entry → Lane → Type 0 where
-  nothing-yet : {l : Lane} → HostRan l [] l
-  start : {l d : Lane} {es : List Entry} (surface end limit cycle : ℕ) (a : Changed)
-      → start-reads.Learnt tt (l, (surface, (end, (limit, (cycle, tt))))) a (l, (surface, (end, (limit, (cycle, tt)))))
-      → HostRan (a .lane) es d → HostRan l (record { call = start-call surface end limit cycle; reply = a } ∷ es) d
-  enter : {l d : Lane} {es : List Entry} (number position speed : ℕ) (a : Entered)
-      → enter-reads.Learnt tt (l, (number, (position, (speed, tt)))) a (l, (number, (position, (speed, tt))))
-      → HostRan (a .lane) es d → HostRan l (record { call = enter-call number position speed; reply = a } ∷ es) d
-  leave : {l d : Lane} {es : List Entry} (number : ℕ) (a : Changed) → leave-reads.Learnt tt (l, (number, tt)) a (l, (number, tt))
-      → HostRan (a .lane) es d → HostRan l (record { call = leave-call number; reply = a } ∷ es) d
-  cycle : {l d : Lane} {es : List Entry} (κs : Lfts 2) (count : ℕ) (sorts values : RefT (List ℕ)) (a : Cycled)
-      → cycle-reads.Learnt κs (l, (count, (sorts, (values, tt)))) a (l, (count, (sorts, (values, tt))))
-      → HostRan (a .lane) es d → HostRan l (cycleOf count (now sorts) (now values) a ++ es) d
-  read : {l d : Lane} {es : List Entry} (number : ℕ) (a : ReadOut) → read-reads.Learnt tt (l, (number, tt)) a (l, (number, tt))
-      → HostRan l es d → HostRan l (record { call = read-call number; reply = a } ∷ es) d
-  text : {l d : Lane} {es : List Entry} (κs : Lfts 1) (out : RefT (List ℕ)) (a : Told)
-      → text-reads.Learnt κs (l, (out, tt)) (a .listed) (l, (at-last out (a .bytes), tt))
-      → HostRan l es d → HostRan l (record { call = text-call (now out); reply = a } ∷ es) d
+-- what the contract of the exported function says
+abbrev pub HostDid : Call → Words → Answer → Words → Type 0
+HostDid (start-call road first) l a m =
+    OfLane l λ κs lane. (no : ℕ) × (a ≡ bare no []) × start-reads.Learnt κs (lane, (road, (first, tt))) no (at-last lane m, (road, (first, tt)))
+HostDid (enter-call c) l a m =
+    OfLane l λ κs lane. (r : Entered) × (a ≡ entered r) × enter-reads.Learnt κs (lane, (c, tt)) r (at-last lane m, (c, tt))
+HostDid (leave-call number) l a m =
+    OfLane l λ κs lane. (no : ℕ) × (a ≡ bare no []) × leave-reads.Learnt κs (lane, (number, tt)) no (at-last lane m, (number, tt))
+HostDid (cycle-call count wishes) l a m =
+    (d : Cycles l count a m) × (wishes ≡ wishesGiven count (now (d .sorts)) (now (d .values))) × (wishesNo count (now (d .sorts)) (now (d .values)) ≡ 0)
+HostDid (read-call number) l a m =
+    (m ≡ l) × OfLane l (λ κs lane. (r : ReadOut) × (a ≡ readOut r) × read-reads.Learnt κs (lane, (number, tt)) r (lane, (number, tt)))
+HostDid (text-call buffer) l a m =
+    (m ≡ l)
+    × OfBoth l buffer (λ κs lane out. (r : Listed) × (a ≡ listed r (a .bytes)) × text-reads.Learnt κs (lane, (out, tt)) r (lane, (at-last out (a .bytes), tt)))
 
--- a cycle: the lane's own where the wishes can be made, else none, on a lane that is as it was
-one-cycle : (l d : Lane) (es : List Entry) (κs : Lfts 2) (count : ℕ) (sorts values : RefT (List ℕ)) (a : Cycled)
-    → cycle-reads.Learnt κs (l, (count, (sorts, (values, tt)))) a (l, (count, (sorts, (values, tt))))
-    → Ran (a .lane) es d → Ran l (cycleOf count (now sorts) (now values) a ++ es) d
-one-cycle l d es κs count sorts values a s r = by-test (eqb (wishesNo count (now sorts) (now values)) 0) refl
-  where
-    by-test : (t : Bool) → eqb (wishesNo count (now sorts) (now values)) 0 ≡ t
-        → Ran l (cond t (record { call = cycle-call count (wishesOf count (now sorts) (now values)); reply = a } ∷ []) [] ++ es) d
-    by-test true e =
-        let z = eqb-true (wishesNo count (now sorts) (now values)) 0 e in
-        then {e = record { call = cycle-call count (wishesOf count (now sorts) (now values)); reply = a }}
-        (sixty-four count (now sorts) (now values) z, s .made z) r
-    by-test false e =
-        let h = s .unmade (eqb-false (wishesNo count (now sorts) (now values)) 0 e) in
-        subst (λ (x : Lane). Ran x es d) (ap (λ (x : Cycled). x .lane) h) r
+-- a list of exported calls, each on the lane that the one before left and answered as its contract says, and the calls of the lane that
+-- they are
+pub data HostRan : Words → List Event → Words → Type 0 where
+  nothing-yet : {l : Words} → HostRan l [] l
+  call : {l d : Words} {e : Event} {es : List Event} → HostDid (e .call) l (e .answer) (e .left) → HostRan (e .left) es d → HostRan l (e ∷ es) d
+  unmade : {l m d : Words} {es : List Event} (count : ℕ) (a : Answer) (c : Cycles l count a m) → ¬ (wishesNo count (now (c .sorts)) (now (c .values)) ≡ 0)
+      → HostRan m es d → HostRan l es d
 
-is-ran : {l d : Lane} {es : List Entry} → HostRan l es d → Ran l es d
-is-ran nothing-yet = none-yet
-is-ran (start surface end limit first a s r) = then s (is-ran r)
-is-ran (enter number position speed a s r) = then s (is-ran r)
-is-ran (leave number a s r) = then s (is-ran r)
-is-ran {l} {d} (cycle {es = es} κs count sorts values a s r) = one-cycle l d es κs count sorts values a s (is-ran r)
-is-ran (read number a s r) = then s (is-ran r)
-is-ran (text κs out a s r) = then {e = record { call = text-call (now out); reply = a }} (record { κs = κs; out = out; before = refl; says = s }) (is-ran r)
+gives : (x : Call) (l : Words) (a : Answer) (m : Words) → HostDid x l a m → Gives x l a m × Wished (kindOf x)
+gives (start-call road first) l a m d = (given-of (d .before) (d .says .1) (d .says .2), tt)
+gives (enter-call c) l a m d = (given-of (d .before) (d .says .1) (d .says .2), tt)
+gives (leave-call number) l a m d = (given-of (d .before) (d .says .1) (d .says .2), tt)
+gives (cycle-call count wishes) l a m (d, same, made) = (
+  given-of (d .before) (d .answer) (rw same (d .says .made made)),
+  λ h. rw same (wishes-enough count (now (d .sorts)) (now (d .values)) made),
+)
+gives (read-call number) l a m d = (read-of (d .0) (d .1 .before) (d .1 .says .1) (d .1 .says .2 .0), tt)
+gives (text-call buffer) l a m d =
+    let g = d .1 .says .2 in
+    (subst (λ (b : List ℕ). Gives (text-call b) l a m) (d .1 .lent) (read-of (d .0) (d .1 .before) (d .1 .says .1) g), tt)
+
+is-chain : {l d : Words} {es : List Event} → HostRan l es d → Chain l es d
+is-chain nothing-yet = chain-end
+is-chain {l} (call {e = e} h r) = let g = gives (e .call) l (e .answer) (e .left) h in chain-next (g .0) (g .1) (is-chain r)
+is-chain {d = d} (unmade {es = es} count a c n r) = subst (λ (k : Words). Chain k es d) (c .says .unmade n .1 ∙ c .before) (is-chain r)
 
 -- demand 3 for every list of exported calls from an empty lane
-pub host-history : (l : Lane) → l .count ≡ 0 → (es : List Entry) (d : Lane) → HostRan l es d → Throughout l (begun l) es
-host-history l e es d r = history l e es d (is-ran r)
+pub host-history : (l : Words) → stateOf l .count ≡ 0 → (es : List Event) (d : Words) → HostRan l es d → Throughout (begun l) es
+host-history l e es d r = chain-history l e es d (is-chain r)

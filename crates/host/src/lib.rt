@@ -1,100 +1,83 @@
-// The supervisor for hosts in C, C++ or Rust: each call of the lane under a plain name, structs by value.
+// The supervisor for hosts in C, C++ or Rust: each call of the lane under a plain name, on a lane that the host lends.
 ghost use mathlib.Core.Path.{_≡_};
 ghost use mathlib.Core.Bool.{false};
-ghost use lib.ListN.{replicate, drop};
-ghost use Rattle.lane.specs.State.{stateOf};
-ghost use Rattle.lane.specs.Calls.{carrier, none};
-ghost use Rattle.lane.specs.Gives.{Starts, Enters, Leaves, ReadsOut, Lists};
-ghost use Rattle.console.specs.Program.{stepInto, Gives};
-ghost use Rattle.host.specs.Wishes.{CyclesWith};
-
-mod wishes;
-
+ghost use mathlib.Core.List.{[]};
+ghost use lib.Ieee.Exact.{HasValue};
+ghost use lib.ListN.{drop};
+ghost use Rattle.lane.specs.Layout.{stateOf, emptyWords};
+ghost use Rattle.lane.specs.Calls.{namedCarrier};
+ghost use Rattle.lane.specs.Call.{start-call, enter-call, leave-call, read-call, text-call, bare, entered, cycled, readOut, listed, Gives};
+ghost use Rattle.lane.specs.Given.{GivesWith};
+ghost use Rattle.console.specs.Program.{stepInto, StepGives};
 use console::Stepped;
-use lane::Changed;
+use lane::Carrier;
 use lane::Cycled;
 use lane::Entered;
 use lane::Lane;
 use lane::Listed;
 use lane::ReadOut;
-use wish::Wish;
-
-// A wish made of numbers, or none.
-pub enum Made {
-    Of(Wish),
-    Unknown,
-}
+use lane::Road;
 
 #[no_mangle]
-pub extern "C" fn rondavitse_empty() -> Lane
-    ensures { λ r. ⌜ r ≡ record { started = false; surface = 0; end = 0; limit = 0; cycle = 0; count = 0; carriers = replicate 64 none } ⌝ }
+pub extern "C" fn rondavitse_empty(l: &mut Lane)
+    ensures { λ r. ⌜ now (l .exit) ≡ emptyWords ⌝ }
 {
-    lane::empty()
+    lane::empty(l)
 }
 
 #[no_mangle]
-pub extern "C" fn rondavitse_start(
-    l: Lane,
-    surface: u32,
-    end: u32,
-    limit: u32,
-    cycle: u64,
-) -> Changed
-    ensures { λ r. ⌜ Starts l surface end limit cycle r ⌝ }
+pub extern "C" fn rondavitse_start(l: &mut Lane, road: Road, first: u64) -> u32
+    ensures { λ r. ⌜ Gives (start-call road first) (now (l .entry)) (bare r []) (now (l .exit)) ⌝ }
 {
-    lane::start(l, surface, end, limit, cycle)
+    lane::start(l, road, first)
 }
 
 #[no_mangle]
-pub extern "C" fn rondavitse_enter(l: Lane, number: u16, position: u32, speed: u32) -> Entered
-    ensures { λ r. ⌜ Enters l (carrier number position speed) r ⌝ }
+pub extern "C" fn rondavitse_enter(l: &mut Lane, c: Carrier) -> Entered
+    ensures { λ r. ⌜ Gives (enter-call c) (now (l .entry)) (entered r) (now (l .exit)) ⌝ }
 {
-    lane::enter(l, number, position, speed)
+    lane::enter(l, c)
 }
 
 #[no_mangle]
-pub extern "C" fn rondavitse_leave(l: Lane, number: u16) -> Changed
-    ensures { λ r. ⌜ Leaves l number r ⌝ }
+pub extern "C" fn rondavitse_leave(l: &mut Lane, number: u64) -> u32
+    ensures { λ r. ⌜ Gives (leave-call number) (now (l .entry)) (bare r []) (now (l .exit)) ⌝ }
 {
     lane::leave(l, number)
 }
 
 #[no_mangle]
-pub extern "C" fn rondavitse_read(l: Lane, number: u16) -> ReadOut
-    ensures { λ r. ⌜ ReadsOut l number r ⌝ }
+pub extern "C" fn rondavitse_read(l: &Lane, number: u64) -> ReadOut
+    ensures given { λ r. ⌜ Gives (read-call number) (now (l .entry)) (readOut r) (now (l .entry)) ⌝ }
+    ensures exact { λ r. ⌜ (r .no ≡ 0 → HasValue (r .reading .position) false (namedCarrier (stateOf (now (l .entry))) number .position) 2048 × HasValue (r .reading .speed) false (namedCarrier (stateOf (now (l .entry))) number .speed) 128) ⌝ }
 {
     lane::read(l, number)
 }
 
 #[no_mangle]
-pub extern "C" fn rondavitse_lane_text(l: Lane, out: &mut [u8]) -> Listed
-    ensures { λ r. ⌜ Lists l (now (out .entry)) r (now (out .exit)) ⌝ }
+pub extern "C" fn rondavitse_lane_text(l: &Lane, out: &mut [u8]) -> Listed
+    ensures { λ r. ⌜ Gives (text-call (now (out .entry))) (now (l .entry)) (listed r (now (out .exit))) (now (l .entry)) ⌝ }
 {
     lane::lane_text(l, out)
 }
 
-// One block of call texts, as the program runs it.
+// The wishes come as two arrays, of sorts and of values; the first `count` of each are looked at.
 #[no_mangle]
-pub extern "C" fn rondavitse_step(l: Lane, input: &[u8], at: usize, out: &mut [u8]) -> Stepped
-    ensures { λ r. ⌜ Gives l (stepInto (now (out .entry)) (stateOf l) (drop at (now (input .entry)))) at (now (out .entry)) r (now (out .exit)) ⌝ }
+pub extern "C" fn rondavitse_cycle(
+    l: &mut Lane,
+    count: usize,
+    sorts: &[u8],
+    values: &[u32],
+) -> Cycled
+    ensures { λ r. ⌜ GivesWith (now (l .entry)) count (now (sorts .entry)) (now (values .entry)) (cycled r) (now (l .exit)) ⌝ }
 {
-    console::step(l, input, at, out)
+    lane::cycle_given(l, count, sorts, values)
 }
 
-// The wishes come as two arrays, of sorts and of values; the first `count` of each, at most 64, are looked at.
+// One block of call texts, as the program runs it.
 #[no_mangle]
-pub extern "C" fn rondavitse_cycle(l: Lane, count: usize, sorts: &[u8], values: &[u32]) -> Cycled
-    ensures { λ r. ⌜ CyclesWith l count (now (sorts .entry)) (now (values .entry)) r ⌝ }
+pub extern "C" fn rondavitse_step(l: &mut Lane, input: &[u8], at: usize, out: &mut [u8]) -> Stepped
+    ensures { λ r. ⌜ StepGives (now (l .entry)) (stepInto (now (out .entry)) (stateOf (now (l .entry))) (drop at (now (input .entry)))) at (now (out .entry)) r (now (l .exit)) (now (out .exit)) ⌝ }
 {
-    let no = wishes::check(count, sorts, values);
-    if no != 0 {
-        return Cycled {
-            no,
-            word: 0,
-            replaced: 0,
-            gone: 0,
-            lane: l,
-        };
-    }
-    lane::cycle(l, count, wishes::made(count, sorts, values))
+    console::step(l, input, at, out)
 }

@@ -6,24 +6,25 @@ use mathlib.Core.List.{List, [], _∷_, map}
 use Prim.Native.Nat.{ℕ}
 use lib.IntN.{pos}
 use lib.Ieee.{binary32, ofBits}
-use lib.ListN.{getD, replicate, List·getD-map}
+use lib.ListN.{getD, List·getD-map}
 use Rattle.headway.specs.Motion.{speedAfter, positionAfter}
 use Rattle.headway.specs.Stopping.{braking, gained, stoppingDistance, safeBehind}
 use Rattle.headway.specs.Wishes.{restsBehind}
 use Rattle.wish.specs.Units.{unitsOf}
 use Rattle.wish.specs.Trimming.{trimmedTo}
 use Rattle.wish.specs.declared.Converted.{Converted}
-use Rattle.wish.specs.declared.Wish.{Wish}
 use Rattle.wish.specs.declared.Wish.the-variants.{Units, Acceleration, Hold}
 use Rattle.wish.proofs.Cases as Accelerations
 use Rattle.wish.proofs.Cases.{accelerationCases}
 use Rattle.lane.specs.declared.Carrier.{Carrier}
-use Rattle.lane.specs.declared.Lane.{Lane}
-use Rattle.lane.specs.Surface.{rowOf}
-use Rattle.lane.specs.State.{State, stateOf}
+use Rattle.lane.specs.Surface.{houseRows, rowOf}
+use Rattle.lane.specs.State.{State}
+use Rattle.lane.specs.Layout.{stateOf, emptyWords}
 use Rattle.lane.specs.Safety.{safeWith, safeFrom, laneSafe, anyOf, firstPlace, repeats}
-use Rattle.lane.specs.Wishes.{trimmedWish, stands, drive, drives, moved, allMoved, anyOutside, wordOf, remaining}
-use Rattle.lane.specs.Calls.{none, carrier, broken, startNo, startState, walk, gapNo, enterNo, enterState, cycleDrives, cycleNo, cycleWord, cycleState}
+use Rattle.lane.specs.Rules.{roadNo, unlawful, pastEnd, faulty, broken, newcomerNo}
+use Rattle.lane.specs.Wishes.{wishedUnits, anyOutside, trimmed, stands, drive, drives, moved, allMoved, wordOf, remaining}
+use Rattle.lane.specs.Calls.{walk, gapNo, placeNo, enterNo, enteredState, cycleDrives, readyNo, cycleNo, cycleWord, cycleCarriers, cycledState}
+use Rattle.lane.specs.Call.{Call, start-call, enter-call, cycle-call, callAnswer, callState}
 
 -- what a case gives
 pub data Value : Type 0 where
@@ -50,24 +51,25 @@ pub record Entry : Type 0 where
 abbrev pub entry : Case → Value → Entry
 entry c v = record { shown = c; gives = v }
 
--- an empty lane, never started
-abbrev never : Lane
-never = record { started = false; surface = 0; end = 0; limit = 0; cycle = 0; count = 0; carriers = replicate 64 none }
+abbrev carrier : (number position speed : ℕ) → Carrier
+carrier number position speed = record { number = number; position = position; speed = speed }
 
--- "start 0, 10000, 1000, 0; enter 7 at .. speed 0; enter 8 at 700 speed 64"
+-- "start 0, 10000, 1000, 0; enter 7 at .. speed 0; enter 8 at 700 speed 64", from a lane of no words but 0
 abbrev example-lane : ℕ → State
 example-lane position =
-    enterState (enterState (startState (stateOf never) 0 10000 1000 0) (carrier 7 position 0)) (carrier 8 700 64)
+    callState (enter-call (carrier 8 700 64))
+    (callState (enter-call (carrier 7 position 0))
+    (callState (start-call (record { surface = 0; end = 10000; limit = 1000 }) 0) (stateOf emptyWords)))
 
 -- "cycle of 2 with `hold` and `units:32`"
-abbrev example-wishes : List Wish
-example-wishes = Hold ∷ Units (pos 32) ∷ []
+abbrev example-cycle : Call
+example-cycle = cycle-call 2 (Hold ∷ Units (pos 32) ∷ [])
 
 pub value : Case → Value
 value (stop c v) = distance (stoppingDistance c v)
 value (gap b B v apart) = safe (safeBehind b B 0 v apart v)
 value (example position) =
-    cycled (cycleWord (example-lane position) 2 example-wishes) (cycleState (example-lane position) 2 example-wishes .carriers)
+    cycled (callAnswer example-cycle (example-lane position) .word) (callState example-cycle (example-lane position) .carriers)
 value (acceleration bits) = units (unitsOf (Acceleration (ofBits binary32 bits)) 0)
 
 abbrev pub first : Entry
@@ -89,7 +91,7 @@ table =
 
 -- the whole table, by one computation
 computed : map (λ (e : Entry). value (e .shown)) table ≡ map (λ (e : Entry). e .gives) table
-unfolding value table accelerationCases startNo startState walk gapNo enterNo enterState stoppingDistance gained braking speedAfter positionAfter safeBehind restsBehind unitsOf ofBits trimmedTo rowOf safeWith safeFrom laneSafe anyOf firstPlace repeats trimmedWish stands drive drives moved allMoved anyOutside wordOf remaining broken cycleDrives cycleNo cycleWord cycleState
+unfolding value table accelerationCases stoppingDistance gained braking speedAfter positionAfter safeBehind restsBehind unitsOf ofBits trimmedTo houseRows rowOf safeWith safeFrom laneSafe anyOf firstPlace repeats roadNo unlawful pastEnd faulty broken newcomerNo wishedUnits anyOutside trimmed stands drive drives moved allMoved wordOf remaining walk gapNo placeNo enterNo enteredState cycleDrives readyNo cycleNo cycleWord cycleCarriers cycledState callAnswer callState
 computed = refl
 
 -- and so each of its entries

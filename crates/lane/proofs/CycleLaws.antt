@@ -1,13 +1,14 @@
--- What an accepted cycle does, for the crates above: `CycleRun`, place by place, in words of headway and wish alone.
+-- What an accepted cycle does, for the crates above: `CycleRun`, place by place, in words of headway and wish, `guaranteedRate` and `reachTo`.
 use mathlib.Core.Path.{_≡_, refl, sym, ap, _∙_}
 use mathlib.Core.Bool.{Bool, true, false, not, _&&_, cond, true≢false}
 use mathlib.Core.List.{List, [], _∷_, map}
 use Prim.Native.Nat.{ℕ, zero, suc, _+_, _-_, _/_, _%_, _^_, _≤_, _<_}
 use native.Mathlib.Omega.{arith}
-use borrow.Author.Tests.{ltb-true, ltb-false}
-use lib.Dec.{eqb, ltb}
+use borrow.Author.Tests.{leb-true, leb-false}
+use lib.Dec.{eqb, leb, ltb}
 use lib.IntN.{ℤ, pos}
-use lib.ListN.{length, getD, take}
+use lib.ListN.{length, getD, take, length-take}
+use lib.Seq.{getD-take}
 use lib.Signed.{_<ℤ_}
 use Rattle.headway.specs.Motion.{speedAfter, positionAfter, positionAt}
 use Rattle.headway.specs.Stopping.{braking}
@@ -20,20 +21,21 @@ use Rattle.wish.specs.declared.Wish.{Wish}
 use Rattle.wish.specs.declared.Wish.the-variants.{Hold}
 use Rattle.lane.specs.declared.Carrier.{Carrier}
 use Rattle.lane.specs.declared.Drive.{Drive}
+use Rattle.lane.specs.declared.Road.{Road}
 use Rattle.lane.specs.declared.Row.{Row}
-use Rattle.lane.specs.Surface.{rowOf}
+use Rattle.lane.specs.Surface.{rowIn}
 use Rattle.lane.specs.State.{State}
-use Rattle.lane.specs.Safety.{Ahead, nobody, leader}
-use Rattle.lane.specs.Wishes.{isOutside, trimmedWish, stands, drive, drives, moved, allMoved, anyOutside, replacedIn, bit, wordOf, remaining}
-use Rattle.lane.specs.Calls.{none, broken, withCarriers, atCycle, cycleDrives, cycleNo, cycleWord, cycleCarriers, cycleState}
-use Rattle.lane.proofs.Laws.{accepted-has}
-use Rattle.lane.proofs.Passed.{passed}
-use Rattle.lane.proofs.Tests.{neither}
-use Rattle.lane.proofs.Words.{word-bit}
-use Rattle.lane.proofs.Soundness.{Sound}
-use Rattle.lane.proofs.Order.{aheadIn}
-use Rattle.lane.proofs.Turns.{accelerationsIn, drives-at, never-touching, replaced-is}
-use Rattle.lane.proofs.Keeps.{accepted-sound, row-sound}
+use Rattle.lane.specs.Safety.{Ahead, nobody, leader, guaranteedRate, reachTo}
+use Rattle.lane.specs.Rules.{pastEnd}
+use Rattle.lane.specs.Wishes.{isOutside, unitsIn, wishedUnits, anyOutside, trimmed, stands, drive, drives, moved, allMoved, replacedIn, bit, wordOf, remaining}
+use Rattle.lane.specs.Calls.{none, withCarriers, atCycle, cycleDrives, cycleNo, cycleWord, cycleCarriers, cycledState}
+use Rattle.lane.specs.Call.{cycle-call, Answer, callAnswer, callState}
+use Rattle.lane.proofs.lists.Tests.{neither}
+use Rattle.lane.proofs.lists.Words.{word-bit}
+use Rattle.lane.proofs.calls.Answers.{accepted-changes, accepted-answers, Ready, ready-tells, cycle-tells}
+use Rattle.lane.proofs.calls.Order.{aheadIn}
+use Rattle.lane.proofs.driving.Turns.{accelerationsIn, drives-at, never-touching, replaced-is}
+use Rattle.lane.proofs.calls.Keeps.{row-sound}
 
 -- ---- the words of the law
 
@@ -56,7 +58,7 @@ wishOf ws i = getD ws i Hold
 pub record Trimmed (s : State) (c : Carrier) (w : Wish) (t : ℤ) : Type 0 where
   pub units : ℤ
   pub within : unitsOf w (c .speed) ≡ Units units
-  pub trimmed : t ≡ trimmedTo units (c .speed) (rowOf (s .surface) .hardest) (rowOf (s .surface) .most) (s .limit)
+  pub trimmed : t ≡ trimmedTo units (c .speed) (rowIn (s .road) .hardest) (rowIn (s .road) .most) (s .road .limit)
 
 -- "bit i is set if the wish of place i was replaced"
 abbrev pub bitSet : (word i : ℕ) → Bool
@@ -71,13 +73,14 @@ pub record CycleRun (s : State) (ws : List Wish) (word : ℕ) (after : List Carr
   pub wished : (i : ℕ) → i < length (s .carriers) → Trimmed s (carrierOf s i) (wishOf ws i) (trimmed i)
   pub as-many : length accelerations ≡ length (s .carriers)
   pub drives-as-told : (i : ℕ) → i < length (s .carriers)
-      → getD accelerations i (pos 0) ≡ cond (bitSet word i) (braking (rowOf (s .surface) .guaranteed) (carrierOf s i .speed)) (trimmed i)
+      → getD accelerations i (pos 0)
+      ≡ cond (bitSet word i) (braking (guaranteedRate (rowIn (s .road)) (carrierOf s i)) (carrierOf s i .speed)) (trimmed i)
   -- a wish is replaced exactly where the carrier would not rest behind the one next ahead
   pub replaces : (i : ℕ) → bitSet word i
       ≡ ltb 0 i
       && (ltb i (length (s .carriers))
-      && not (restsBehind (rowOf (s .surface) .guaranteed) (rowOf (s .surface) .hardest) (carrierOf s i .position) (carrierOf s i .speed) (trimmed i) (carrierOf s (i - 1) .position) (carrierOf s (i - 1) .speed)))
-  pub leaves : Drove (s .end) (s .carriers) accelerations after
+      && not (restsBehind (guaranteedRate (rowIn (s .road)) (carrierOf s i)) (rowIn (s .road) .hardest) (reachTo (carrierOf s (i - 1)) (carrierOf s i)) (carrierOf s i .speed) (trimmed i) (carrierOf s (i - 1) .position) (carrierOf s (i - 1) .speed)))
+  pub leaves : Drove (s .road .end) (s .carriers) accelerations after
   -- at each fraction of the cycle each carrier is below every one ahead
   pub apart : (n k i j : ℕ) → 1 ≤ n → k ≤ n → i < j → j < length (s .carriers)
       → positionAt n k (carrierOf s j .position) (carrierOf s j .speed) (getD accelerations j (pos 0))
@@ -85,123 +88,125 @@ pub record CycleRun (s : State) (ws : List Wish) (word : ℕ) (after : List Carr
 
 -- ---- its proof
 
--- wishes past the carriers are not looked at
-drives-taken : (r : Row) (limit : ℕ) (ahead : Ahead) (cs : List Carrier) (ws : List Wish) (count : ℕ) → length cs ≤ count
-    → drives r limit ahead cs (take count ws) ≡ drives r limit ahead cs ws
-unfolding drives
-drives-taken r limit ahead [] ws count h = refl
-drives-taken r limit ahead (c ∷ cs) [] zero h = refl
-drives-taken r limit ahead (c ∷ cs) [] (suc count) h = refl
-drives-taken r limit ahead (c ∷ cs) (w ∷ ws) zero h = absurd (omega arith)
-drives-taken r limit ahead (c ∷ cs) (w ∷ ws) (suc count) h =
-    ap (λ (ds : List Drive). drive r limit ahead c w ∷ ds) (drives-taken r limit (leader c) cs ws count (omega arith))
+units-within : (u : Converted) → isOutside u ≡ false → u ≡ Units (unitsIn u)
+units-within (Units z) e = refl
+units-within Outside e = absurd (true≢false e)
 
-drives-length : {B : Type 0} (f : Drive → B) (r : Row) (limit : ℕ) (ahead : Ahead) (cs : List Carrier) (ws : List Wish) → length cs ≤ length ws
-    → length (map f (drives r limit ahead cs ws)) ≡ length cs
+units-length : (cs : List Carrier) (ws : List Wish) → length cs ≤ length ws → length (wishedUnits cs ws) ≡ length cs
+unfolding wishedUnits
+units-length [] ws h = refl
+units-length (c ∷ cs) [] h = absurd (omega arith)
+units-length (c ∷ cs) (w ∷ ws) h = ap suc (units-length cs ws (omega arith))
+
+-- where no wish is outside its range, each has units
+units-at : (cs : List Carrier) (ws : List Wish) (i : ℕ) → anyOutside cs ws ≡ false → i < length cs → length cs ≤ length ws
+    → unitsOf (getD ws i Hold) (getD cs i none .speed) ≡ Units (getD (wishedUnits cs ws) i (pos 0))
+unfolding wishedUnits anyOutside
+units-at [] ws i e h k = absurd (omega arith)
+units-at (c ∷ cs) [] i e h k = absurd (omega arith)
+units-at (c ∷ cs) (w ∷ ws) zero e h k = units-within (unitsOf w (c .speed)) (neither (isOutside (unitsOf w (c .speed))) (anyOutside cs ws) e .0)
+units-at (c ∷ cs) (w ∷ ws) (suc i) e h k =
+    units-at cs ws i (neither (isOutside (unitsOf w (c .speed))) (anyOutside cs ws) e .1) (omega arith) (omega arith)
+
+drives-length : {B : Type 0} (f : Drive → B) (r : Row) (limit : ℕ) (ahead : Ahead) (cs : List Carrier) (zs : List ℤ) → length cs ≤ length zs
+    → length (map f (drives r limit ahead cs zs)) ≡ length cs
 unfolding drives
-drives-length f r limit ahead [] ws h = refl
+drives-length f r limit ahead [] zs h = refl
 drives-length f r limit ahead (c ∷ cs) [] h = absurd (omega arith)
-drives-length f r limit ahead (c ∷ cs) (w ∷ ws) h = ap suc (drives-length f r limit (leader c) cs ws (omega arith))
+drives-length f r limit ahead (c ∷ cs) (z ∷ zs) h = ap suc (drives-length f r limit (leader c) cs zs (omega arith))
 
 flag-set : (t : Bool) → eqb (bit t) 1 ≡ t
 flag-set true = refl
 flag-set false = refl
 
-swapped : {A : Type 0} (t : Bool) (x y : A) → cond t x y ≡ cond (not t) y x
-swapped true x y = refl
-swapped false x y = refl
-
-drive-as-told : (r : Row) (limit : ℕ) (ahead : Ahead) (c : Carrier) (w : Wish)
-    → drive r limit ahead c w .acceleration ≡ cond (drive r limit ahead c w .replaced) (braking (r .guaranteed) (c .speed)) (trimmedWish r limit c w)
+drive-as-told : (r : Row) (limit : ℕ) (ahead : Ahead) (c : Carrier) (z : ℤ)
+    → drive r limit ahead c z .acceleration ≡ cond (drive r limit ahead c z .replaced) (braking (guaranteedRate r c) (c .speed)) (trimmed r limit c z)
 unfolding drive
-drive-as-told r limit ahead c w = swapped (stands r ahead c (trimmedWish r limit c w)) _ _
-
-none-outside : (ds : List Drive) (i : ℕ) → anyOutside ds ≡ false → getD (map (λ (d : Drive). d .outside) ds) i false ≡ false
-unfolding anyOutside
-none-outside [] i e = refl
-none-outside (d ∷ ds) zero e = neither (d .outside) (anyOutside ds) e .0
-none-outside (d ∷ ds) (suc i) e = none-outside ds i (neither (d .outside) (anyOutside ds) e .1)
-
-drive-outside : (r : Row) (limit : ℕ) (ahead : Ahead) (c : Carrier) (w : Wish) → drive r limit ahead c w .outside ≡ isOutside (unitsOf w (c .speed))
-unfolding drive
-drive-outside r limit ahead c w = refl
-
-in-units : (s : State) (c : Carrier) (w : Wish) → isOutside (unitsOf w (c .speed)) ≡ false → Trimmed s c w (trimmedWish (rowOf (s .surface)) (s .limit) c w)
-unfolding trimmedWish
-in-units s c w e = by-case (unitsOf w (c .speed)) refl e
+drive-as-told r limit ahead c z = swapped (stands r ahead c (trimmed r limit c z)) _ _
   where
-    by-case : (u : Converted) → unitsOf w (c .speed) ≡ u → isOutside u ≡ false → Trimmed s c w (trimmedWish (rowOf (s .surface)) (s .limit) c w)
-    by-case (Units z) q p = record { units = z; within = q; trimmed = rw q refl }
-    by-case Outside q p = absurd (true≢false p)
+    swapped : (t : Bool) (x y : ℤ) → cond t x y ≡ cond (not t) y x
+    swapped true x y = refl
+    swapped false x y = refl
 
-left-of : (end : ℕ) (cs : List Carrier) (ds : List Drive) → length (accelerationsIn ds) ≡ length cs → Drove end cs (accelerationsIn ds) (remaining end (allMoved cs ds))
-unfolding remaining allMoved moved
-left-of end [] [] e = nobody-drives
-left-of end [] (d ∷ ds) e = absurd (omega arith)
-left-of end (c ∷ cs) [] e = absurd (omega arith)
-left-of end (c ∷ cs) (d ∷ ds) e = by-test (ltb (to .position) end) refl (left-of end cs ds (omega arith))
+left-of : (road : Road) (cs : List Carrier) (ds : List Drive) → length (accelerationsIn ds) ≡ length cs
+    → Drove (road .end) cs (accelerationsIn ds) (remaining road (allMoved cs ds))
+unfolding remaining allMoved moved pastEnd
+left-of road [] [] e = nobody-drives
+left-of road [] (d ∷ ds) e = absurd (omega arith)
+left-of road (c ∷ cs) [] e = absurd (omega arith)
+left-of road (c ∷ cs) (d ∷ ds) e = by-test (leb (road .end) (to .position)) refl (left-of road cs ds (omega arith))
   where
     to : Carrier
     to = moved c (d .acceleration)
 
-    by-test : (t : Bool) → ltb (to .position) end ≡ t → Drove end cs (accelerationsIn ds) (remaining end (allMoved cs ds))
-        → Drove end (c ∷ cs) (accelerationsIn (d ∷ ds)) (cond t (to ∷ remaining end (allMoved cs ds)) (remaining end (allMoved cs ds)))
-    by-test true p h = stays-on (ltb-true (to .position) end p) h
-    by-test false p h = is-gone (ltb-false (to .position) end p) h
+    by-test : (t : Bool) → leb (road .end) (to .position) ≡ t → Drove (road .end) cs (accelerationsIn ds) (remaining road (allMoved cs ds))
+        → Drove (road .end) (c ∷ cs) (accelerationsIn (d ∷ ds)) (cond t (remaining road (allMoved cs ds)) (to ∷ remaining road (allMoved cs ds)))
+    by-test true p h = is-gone (leb-true (road .end) (to .position) p) h
+    by-test false p h = stays-on (leb-false (road .end) (to .position) p) h
 
-module _ (s : State) (counted : s .count ≡ length (s .carriers)) (count : ℕ) (ws : List Wish) (long : length ws ≡ 64) (e : cycleNo s count ws ≡ 0) where
-  inside : anyOutside (cycleDrives s ws) ≡ false
-  unfolding cycleNo
-  inside =
-      let a = passed (broken s) 20 _ e .1 in
-      let b = passed (not (eqb count (s .count))) 26 _ a .1 in
-      let c = passed (eqb (s .cycle) 18446744073709551615) 27 _ b .1 in
-      passed (anyOutside (cycleDrives s ws)) 6 0 c .0
+-- the cycle number is one higher, and the carriers are others
+pub cycle-accepted : (s : State) (count : ℕ) (ws : List Wish) → cycleNo s count ws ≡ 0
+    → callState (cycle-call count ws) s ≡ atCycle (s .cycle + 1) (withCarriers s (callState (cycle-call count ws) s .carriers))
+unfolding cycledState
+cycle-accepted s count ws e = rw (accepted-changes (cycle-call count ws) s e) refl
 
-  sound-here : Sound s
-  unfolding cycleNo
-  sound-here = accepted-sound s _ e
+-- the wishes are those of a lane that counts its carriers, of which there are at most 64
+module _ (s : State) (counted : s .count ≡ length (s .carriers)) (count : ℕ) (ws : List Wish) (enough : count ≤ 64 → count ≤ length ws)
+    (e : cycleNo s count ws ≡ 0) where
+  ready : Ready s count
+  ready = ready-tells s count (cycle-tells s count ws e .0)
 
   wished-all : length (s .carriers) ≤ length ws
-  wished-all = omega (arith, counted, sound-here .count)
+  wished-all = omega (arith, counted, ready .counted, enough (omega (arith, ready .counted, ready .sound .count)))
+
+  abbrev looked-at : List Wish
+  looked-at = take (s .count) ws
+
+  looked-at-all : length (s .carriers) ≤ length looked-at
+  looked-at-all = omega (arith, counted, wished-all, length-take (s .count) ws)
+
+  abbrev units : List ℤ
+  units = wishedUnits (s .carriers) looked-at
+
+  units-all : length (s .carriers) ≤ length units
+  units-all = omega (arith, units-length (s .carriers) looked-at looked-at-all)
 
   abbrev all : List Drive
-  all = drives (rowOf (s .surface)) (s .limit) nobody (s .carriers) ws
+  all = drives (rowIn (s .road)) (s .road .limit) nobody (s .carriers) units
 
-  drives-all : cycleDrives s ws ≡ all
-  unfolding cycleDrives
-  drives-all = drives-taken (rowOf (s .surface)) (s .limit) nobody (s .carriers) ws (s .count) (omega (arith, counted))
-
-  flag-at : (i : ℕ) → bitSet (cycleWord s count ws) i ≡ getD (replacedIn all) i false
-  unfolding cycleWord
+  flag-at : (i : ℕ) → bitSet (callAnswer (cycle-call count ws) s .word) i ≡ getD (replacedIn all) i false
+  unfolding cycleWord cycleDrives
   flag-at i =
-      let is : cycleWord s count ws ≡ wordOf (replacedIn all) = accepted-has (cycleNo s count ws) _ 0 e ∙ ap (λ (ds : List Drive). wordOf (replacedIn ds)) drives-all in
+      let is : callAnswer (cycle-call count ws) s .word ≡ wordOf (replacedIn all) = ap (λ (a : Answer). a .word) (accepted-answers (cycle-call count ws) s e) in
       rw (is, word-bit (replacedIn all) i) (flag-set (getD (replacedIn all) i false))
 
-  pub cycle-accepted : cycleState s count ws ≡ atCycle (s .cycle + 1) (withCarriers s (cycleCarriers s ws))
-  unfolding cycleState
-  cycle-accepted = accepted-has (cycleNo s count ws) _ s e
-
-  pub cycle-runs : CycleRun s ws (cycleWord s count ws) (cycleState s count ws .carriers)
+  pub cycle-runs : CycleRun s ws (callAnswer (cycle-call count ws) s .word) (callState (cycle-call count ws) s .carriers)
+  unfolding trimmed cycledState cycleCarriers cycleDrives
   cycle-runs =
+      let r = rowIn (s .road) in
+      let limit = s .road .limit in
+      let sound = ready .sound in
       record {
-        trimmed = λ i. trimmedWish (rowOf (s .surface)) (s .limit) (carrierOf s i) (wishOf ws i);
+        trimmed = λ i. trimmed r limit (carrierOf s i) (getD units i (pos 0));
         accelerations = accelerationsIn all;
         enough = wished-all;
         wished = λ i h.
-            in-units s (carrierOf s i) (wishOf ws i)
-            (sym (drive-outside (rowOf (s .surface)) (s .limit) (aheadIn nobody i (s .carriers)) (carrierOf s i) (wishOf ws i))
-            ∙ sym (drives-at (λ d. d .outside) false (rowOf (s .surface)) (s .limit) nobody (s .carriers) ws i h wished-all)
-            ∙ none-outside all i (sym (ap anyOutside drives-all) ∙ inside));
-        as-many = drives-length (λ d. d .acceleration) (rowOf (s .surface)) (s .limit) nobody (s .carriers) ws wished-all;
+            record {
+              units = getD units i (pos 0);
+              within =
+                  ap (λ (w : Wish). unitsOf w (carrierOf s i .speed)) (sym (getD-take (s .count) ws i Hold (omega (arith, counted))))
+                  ∙ units-at (s .carriers) looked-at i (cycle-tells s count ws e .1) h looked-at-all;
+              trimmed = refl;
+            };
+        as-many = drives-length (λ d. d .acceleration) r limit nobody (s .carriers) units units-all;
         drives-as-told = λ i h.
-            rw (flag-at i, drives-at (λ d. d .replaced) false (rowOf (s .surface)) (s .limit) nobody (s .carriers) ws i h wished-all)
-            (drives-at (λ d. d .acceleration) (pos 0) (rowOf (s .surface)) (s .limit) nobody (s .carriers) ws i h wished-all
-            ∙ drive-as-told (rowOf (s .surface)) (s .limit) (aheadIn nobody i (s .carriers)) (carrierOf s i) (wishOf ws i));
-        replaces = λ i. flag-at i ∙ replaced-is (rowOf (s .surface)) (row-sound s sound-here) (s .limit) (s .carriers) ws (sound-here .safe) wished-all i;
+            rw (flag-at i, drives-at (λ d. d .replaced) false r limit nobody (s .carriers) units i h units-all)
+            (drives-at (λ d. d .acceleration) (pos 0) r limit nobody (s .carriers) units i h units-all
+            ∙ drive-as-told r limit (aheadIn nobody i (s .carriers)) (carrierOf s i) (getD units i (pos 0)));
+        replaces = λ i. flag-at i ∙ replaced-is r (row-sound (s .road) (sound .road)) limit (s .carriers) units (sound .carriers .safe) units-all i;
         leaves =
-            rw (cycle-accepted, drives-all)
-            (left-of (s .end) (s .carriers) all (drives-length (λ d. d .acceleration) (rowOf (s .surface)) (s .limit) nobody (s .carriers) ws wished-all));
+            rw (accepted-changes (cycle-call count ws) s e)
+            (left-of (s .road) (s .carriers) all (drives-length (λ d. d .acceleration) r limit nobody (s .carriers) units units-all));
         apart = λ n k i j hn hk p q.
-            never-touching (rowOf (s .surface)) (row-sound s sound-here) (s .limit) (s .carriers) ws (sound-here .safe) wished-all n k hn hk i j p q;
+            never-touching r (row-sound (s .road) (sound .road)) limit (s .carriers) units (sound .carriers .safe) units-all n k hn hk i j p q;
       }

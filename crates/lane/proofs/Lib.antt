@@ -1,28 +1,10 @@
--- `Laws`, `CallLaws` and `CycleLaws` are what the crates above may use. Before them stand the laws behind them and behind the functions:
--- lists and places, the rules of a lane, one carrier in a cycle and all of them, the answers of the calls, the marked cases, what a call keeps.
-mod Lists
-mod Shift
-mod Tests
-mod Passed
-mod Records
-mod Search
-mod Faults
-mod Surfaces
-mod Words
-mod Soundness
-mod Gaps
-mod Checks
-mod Drives
-mod Cycles
-mod Entering
+-- `Laws`, `CallLaws` and `CycleLaws` are what the crates above may use; `Cases` is the table of the marked cases. Before them stand the laws behind
+-- them and behind the functions, in groups; a function's own proof is in a folder of its module's and its own name.
+mod lists
+mod checks
+mod driving
+mod calls
 pub mod Laws
-mod Answers
-mod Texts
 mod Cases
-mod Leaving
-mod Order
-mod Turns
-mod Moving
-mod Keeps
 pub mod CallLaws
 pub mod CycleLaws

@@ -1,49 +1,149 @@
--- Any call of the lane: its number, its state afterwards and, of a cycle, its word.
-use Prim.Native.Nat.{ℕ}
+-- Any call of the lane: its number, what it answers, and the lane afterwards.
+use Prim.Native.Nat.{ℕ, _<_}
 use mathlib.Core.Path.{_≡_}
 use mathlib.Core.Bool.{false}
-use mathlib.Core.List.{List}
+use mathlib.Core.List.{List, []}
 use lib.ListN.{length}
+use Rattle.wish.specs.Reading.{readingOf}
+use Rattle.wish.specs.declared.Reading.{Reading}
 use Rattle.wish.specs.declared.Wish.{Wish}
+use Rattle.lane.specs.declared.Carrier.{Carrier}
+use Rattle.lane.specs.declared.Cycled.{Cycled}
+use Rattle.lane.specs.declared.Entered.{Entered}
+use Rattle.lane.specs.declared.Listed.{Listed}
+use Rattle.lane.specs.declared.ReadOut.{ReadOut}
+use Rattle.lane.specs.declared.Road.{Road}
 use Rattle.lane.specs.State.{State}
-use Rattle.lane.specs.Calls.{broken, carrier, startNo, startState, enterNo, enterState, namedNo, leaveState, cycleNo, cycleWord, cycleState}
-use Rattle.lane.specs.Listing.{textNo}
+use Rattle.lane.specs.Layout.{Words, stateOf}
+use Rattle.lane.specs.Rules.{roadNo, broken}
+use Rattle.lane.specs.Calls.{ifAccepted, begunState, walk, enterNo, enteredState, namedNo, leftState, namedReading, cycleNo, cycleWord, cycleReplaced, cycleGone, cycledState}
+use Rattle.lane.specs.Listing.{laneText, textNo, textBytes}
 
 -- a call with its arguments, but for the lane; of the lane text, the bytes of the lent buffer before the call
 pub data Call : Type 0 where
-  start-call : (surface end limit cycle : ℕ) → Call
-  enter-call : (number position speed : ℕ) → Call
+  start-call : Road → (first : ℕ) → Call
+  enter-call : Carrier → Call
   leave-call : (number : ℕ) → Call
   cycle-call : (count : ℕ) → (wishes : List Wish) → Call
   read-call : (number : ℕ) → Call
   text-call : (buffer : List ℕ) → Call
 
--- the number of its refusal, 0 where it is accepted
+-- what a call answers: its number, and values that are zero where it has none; the bytes of the lent buffer after it, none where it has none
+pub record Answer : Type 0 where
+  pub number : ℕ
+  pub place : ℕ
+  pub word : ℕ
+  pub replaced : ℕ
+  pub gone : ℕ
+  pub reading : Reading
+  pub long : ℕ
+  pub bytes : List ℕ
+
+-- an answer with no value
+abbrev pub bare : (number : ℕ) → (bytes : List ℕ) → Answer
+bare number bytes =
+    record { number = number; place = 0; word = 0; replaced = 0; gone = 0; reading = readingOf 0 0; long = 0; bytes = bytes }
+
+abbrev pub placed : (number place : ℕ) → Answer
+placed number place =
+    record { number = number; place = place; word = 0; replaced = 0; gone = 0; reading = readingOf 0 0; long = 0; bytes = [] }
+
+abbrev pub run : (number word replaced gone : ℕ) → Answer
+run number word replaced gone =
+    record { number = number; place = 0; word = word; replaced = replaced; gone = gone; reading = readingOf 0 0; long = 0; bytes = [] }
+
+abbrev pub shown : (number : ℕ) → Reading → Answer
+shown number reading =
+    record { number = number; place = 0; word = 0; replaced = 0; gone = 0; reading = reading; long = 0; bytes = [] }
+
+abbrev pub told : (number long : ℕ) → (bytes : List ℕ) → Answer
+told number long bytes =
+    record { number = number; place = 0; word = 0; replaced = 0; gone = 0; reading = readingOf 0 0; long = long; bytes = bytes }
+
+-- what a call means: the number of its refusal, 0 where it is accepted; the state after it and what it answers, where it is accepted; and the
+-- bytes of the lent buffer before it, where it has one
+pub record Meaning : Type 0 where
+  pub number : State → ℕ
+  pub after : State → State
+  pub answer : State → Answer
+  pub lent : List ℕ
+
+-- an entry answers the place where the walk ends, a cycle word, replaced and gone, a read two doubles, the lane text its length and bytes; read
+-- and lane text change nothing
+abbrev pub meaning : Call → Meaning
+meaning (start-call road first) =
+    record { number = λ s. roadNo road; after = λ s. begunState road first; answer = λ s. bare 0 []; lent = [] }
+meaning (enter-call c) =
+    record { number = λ s. enterNo s c; after = λ s. enteredState s c; answer = λ s. placed 0 (walk (c .position) (s .carriers)); lent = [] }
+meaning (leave-call number) =
+    record { number = λ s. namedNo s number; after = λ s. leftState s number; answer = λ s. bare 0 []; lent = [] }
+meaning (cycle-call count ws) =
+    record {
+      number = λ s. cycleNo s count ws;
+      after = λ s. cycledState s ws;
+      answer = λ s. run 0 (cycleWord s ws) (cycleReplaced s ws) (cycleGone s ws);
+      lent = [];
+    }
+meaning (read-call number) =
+    record { number = λ s. namedNo s number; after = λ s. s; answer = λ s. shown 0 (namedReading s number); lent = [] }
+meaning (text-call buffer) =
+    record {
+      number = λ s. textNo s buffer;
+      after = λ s. s;
+      answer = λ s. told 0 (length (laneText s)) (textBytes s buffer);
+      lent = buffer;
+    }
+
 abbrev pub callNo : Call → State → ℕ
-callNo (start-call surface end limit cycle) s = startNo surface end limit
-callNo (enter-call number position speed) s = enterNo s (carrier number position speed)
-callNo (leave-call number) s = namedNo s number
-callNo (cycle-call count wishes) s = cycleNo s count wishes
-callNo (read-call number) s = namedNo s number
-callNo (text-call buffer) s = textNo s buffer
+callNo x s = meaning x .number s
 
--- "a cycle's word"; another call has none
-abbrev pub callWord : Call → State → ℕ
-callWord (start-call surface end limit cycle) s = 0
-callWord (enter-call number position speed) s = 0
-callWord (leave-call number) s = 0
-callWord (cycle-call count wishes) s = cycleWord s count wishes
-callWord (read-call number) s = 0
-callWord (text-call buffer) s = 0
+abbrev pub acceptedState : Call → State → State
+acceptedState x s = meaning x .after s
 
--- the state after it; read and lane text change none
-abbrev pub callState : Call → State → State
-callState (start-call surface end limit cycle) s = startState s surface end limit cycle
-callState (enter-call number position speed) s = enterState s (carrier number position speed)
-callState (leave-call number) s = leaveState s number
-callState (cycle-call count wishes) s = cycleState s count wishes
-callState (read-call number) s = s
-callState (text-call buffer) s = s
+abbrev pub lentTo : Call → List ℕ
+lentTo x = meaning x .lent
+
+-- an accepted call answers the number 0
+abbrev pub acceptedAnswer : Call → State → Answer
+acceptedAnswer x s =
+    let a = meaning x .answer s in
+    record {
+      number = 0;
+      place = a .place;
+      word = a .word;
+      replaced = a .replaced;
+      gone = a .gone;
+      reading = a .reading;
+      long = a .long;
+      bytes = a .bytes;
+    }
+
+-- "A refusal holds its number, with place, word, counts and both doubles zero. Lane, cycle number and lent bytes are unchanged."
+unfoldable pub callAnswer : Call → State → Answer
+callAnswer x s = ifAccepted (callNo x s) (acceptedAnswer x s) (bare (callNo x s) (lentTo x))
+
+unfoldable pub callState : Call → State → State
+callState x s = ifAccepted (callNo x s) (acceptedState x s) s
+
+-- what a call on the lane `before` gives that answers so and leaves the lane `after`: the contract of its function cites it whole
+pub record Gives (x : Call) (before : Words) (a : Answer) (after : Words) : Type 0 where
+  pub answer : a ≡ callAnswer x (stateOf before)
+  pub state : stateOf after ≡ callState x (stateOf before)
+  -- every word is as before
+  pub refused : 0 < a .number → after ≡ before
+
+-- the answers as the functions return them
+abbrev pub entered : Entered → Answer
+entered r = placed (r .no) (r .place)
+
+abbrev pub cycled : Cycled → Answer
+cycled r = run (r .no) (r .word) (r .replaced) (r .gone)
+
+abbrev pub readOut : ReadOut → Answer
+readOut r = shown (r .no) (r .reading)
+
+abbrev pub listed : Listed → (bytes : List ℕ) → Answer
+listed r bytes = told (r .no) (r .length) bytes
 
 -- a state that breaks no rule of the document and counts its carriers
 pub record Kept (s : State) : Type 0 where

@@ -1,8 +1,11 @@
+pub mod Limits
 pub mod Surface
 pub mod State
+pub mod Layout
 pub mod Safety
+pub mod Rules
 pub mod Wishes
 pub mod Calls
 pub mod Listing
 pub mod Call
-pub mod Gives
+pub mod Given

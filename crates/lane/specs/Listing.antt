@@ -9,12 +9,30 @@ use Rattle.text.specs.Numbers.{decimal}
 use Rattle.text.specs.Lines.{line}
 use Rattle.lane.specs.declared.Carrier.{Carrier}
 use Rattle.lane.specs.State.{State}
-use Rattle.lane.specs.Calls.{broken, ifAccepted}
+use Rattle.lane.specs.Rules.{broken}
+
+-- the lines of a carrier, here and in the block `enter`: "at, .., speed ..: 32 bits; car: 16"; the key of each and the most that it holds
+abbrev pub carKey : List ℕ
+carKey = ascii "car="
+
+abbrev pub carMost : ℕ
+carMost = 65535
+
+abbrev pub atKey : List ℕ
+atKey = ascii "at="
+
+abbrev pub atMost : ℕ
+atMost = 4294967295
+
+abbrev pub speedKey : List ℕ
+speedKey = ascii "speed="
+
+abbrev pub speedMost : ℕ
+speedMost = 4294967295
 
 -- "then number, position, speed"
 unfoldable pub carrierText : Carrier → List ℕ
-carrierText c =
-    line (ascii "car=") (decimal (c .number)) ++ (line (ascii "at=") (decimal (c .position)) ++ line (ascii "speed=") (decimal (c .speed)))
+carrierText c = line carKey (decimal (c .number)) ++ (line atKey (decimal (c .position)) ++ line speedKey (decimal (c .speed)))
 
 -- "front to back"
 unfoldable pub carriersText : List Carrier → List ℕ
@@ -29,10 +47,6 @@ laneText s = line (ascii "cars=") (decimal (s .count)) ++ carriersText (s .carri
 unfoldable pub textNo : State → (buffer : List ℕ) → ℕ
 textNo s buffer = cond (broken s) 21 (cond (ltb (length buffer) (length (laneText s))) 9 0)
 
--- "It gives the text's length;"
-unfoldable pub textLength : State → (buffer : List ℕ) → ℕ
-textLength s buffer = ifAccepted (textNo s buffer) (length (laneText s)) 0
-
 -- "bytes of the buffer after the text don't change."
 unfoldable pub textBytes : State → (buffer : List ℕ) → List ℕ
-textBytes s buffer = ifAccepted (textNo s buffer) (laneText s ++ drop (length (laneText s)) buffer) buffer
+textBytes s buffer = laneText s ++ drop (length (laneText s)) buffer

@@ -1,4 +1,4 @@
--- Document 01, "Stopping": a lane that is safe, and what of a carrier or a number a lane may hold.
+-- Document 01, "Stopping": who is safe behind whom, and a lane that is safe; and searches over its carriers.
 use Prim.Native.Nat.{ℕ, suc}
 use mathlib.Core.Bool.{Bool, true, false, _&&_, _||_, cond}
 use mathlib.Core.List.{List, [], _∷_}
@@ -12,10 +12,18 @@ pub data Ahead : Type 0 where
   nobody : Ahead
   leader : Carrier → Ahead
 
+-- the rate at which a carrier is sure to brake: "guaranteed braking b"
+abbrev pub guaranteedRate : Row → Carrier → ℕ
+guaranteedRate r c = r .guaranteed
+
+-- the position that must stay below the one of the carrier ahead: "A carrier is a point, its front."
+abbrev pub reachTo : (ahead c : Carrier) → ℕ
+reachTo ahead c = c .position
+
 -- safe behind the carrier next ahead; the foremost is by itself
 unfoldable pub safeWith : Row → Ahead → Carrier → Bool
 safeWith r nobody c = true
-safeWith r (leader a) c = safeBehind (r .guaranteed) (r .hardest) (c .position) (c .speed) (a .position) (a .speed)
+safeWith r (leader a) c = safeBehind (guaranteedRate r c) (r .hardest) (reachTo a c) (c .speed) (a .position) (a .speed)
 
 -- each carrier is safe behind the next one ahead, the first of the list behind `ahead`
 unfoldable pub safeFrom : Row → Ahead → List Carrier → Bool

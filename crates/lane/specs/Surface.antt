@@ -2,6 +2,7 @@
 use Prim.Native.Nat.{ℕ}
 use mathlib.Core.List.{List, [], _∷_}
 use lib.ListN.{getD}
+use Rattle.lane.specs.declared.Road.{Road}
 use Rattle.lane.specs.declared.Row.{Row}
 
 -- a column of the table: b, B and A
@@ -17,3 +18,7 @@ houseRows =
 unfoldable pub rowOf : ℕ → Row
 unfolding houseRows
 rowOf code = getD houseRows code (row 0 0 0)
+
+-- the row in force
+abbrev pub rowIn : Road → Row
+rowIn road = rowOf (road .surface)

@@ -2,7 +2,6 @@
 use Prim.Native.Nat.{ℕ, _+_, _*_}
 use mathlib.Core.Bool.{Bool, true, false, not, _||_, cond}
 use mathlib.Core.List.{List, [], _∷_, map}
-use lib.Dec.{ltb}
 use lib.IntN.{ℤ, pos}
 use lib.Signed.{leZ}
 use Rattle.headway.specs.Motion.{speedAfter, positionAfter}
@@ -15,8 +14,10 @@ use Rattle.wish.specs.declared.Converted.{Converted}
 use Rattle.wish.specs.declared.Converted.the-variants.{Units, Outside}
 use Rattle.lane.specs.declared.Carrier.{Carrier}
 use Rattle.lane.specs.declared.Drive.{Drive}
+use Rattle.lane.specs.declared.Road.{Road}
 use Rattle.lane.specs.declared.Row.{Row}
-use Rattle.lane.specs.Safety.{Ahead, nobody, leader}
+use Rattle.lane.specs.Safety.{Ahead, nobody, leader, guaranteedRate, reachTo}
+use Rattle.lane.specs.Rules.{pastEnd}
 
 -- "7 a float outside its range"
 abbrev pub isOutside : Converted → Bool
@@ -28,26 +29,37 @@ abbrev pub unitsIn : Converted → ℤ
 unitsIn (Units z) = z
 unitsIn Outside = pos 0
 
+-- the units of each carrier's wish, front to back
+unfoldable pub wishedUnits : List Carrier → List Wish → List ℤ
+wishedUnits [] ws = []
+wishedUnits (c ∷ cs) [] = []
+wishedUnits (c ∷ cs) (w ∷ ws) = unitsIn (unitsOf w (c .speed)) ∷ wishedUnits cs ws
+
+-- some wish is a float outside its range
+unfoldable pub anyOutside : List Carrier → List Wish → Bool
+anyOutside [] ws = false
+anyOutside (c ∷ cs) [] = false
+anyOutside (c ∷ cs) (w ∷ ws) = isOutside (unitsOf w (c .speed)) || anyOutside cs ws
+
 -- "The units are trimmed into −(smaller of B and v) to the smaller of A and V − v."
-unfoldable pub trimmedWish : Row → (limit : ℕ) → Carrier → Wish → ℤ
-trimmedWish r limit c w = trimmedTo (unitsIn (unitsOf w (c .speed))) (c .speed) (r .hardest) (r .most) limit
+unfoldable pub trimmed : Row → (limit : ℕ) → Carrier → ℤ → ℤ
+trimmed r limit c z = trimmedTo z (c .speed) (r .hardest) (r .most) limit
 
 -- "A trimmed w at or below −(smaller of b and v) stands. So does any w of the foremost carrier, and any w with
 -- p + 2v + w + S(b, v + w) below p of the carrier ahead + S(B, its v), both taken at the cycle's start."
 unfoldable pub stands : Row → Ahead → Carrier → ℤ → Bool
 stands r nobody c w = true
 stands r (leader a) c w =
-    leZ w (braking (r .guaranteed) (c .speed))
-    || restsBehind (r .guaranteed) (r .hardest) (c .position) (c .speed) w (a .position) (a .speed)
+    leZ w (braking (guaranteedRate r c) (c .speed))
+    || restsBehind (guaranteedRate r c) (r .hardest) (reachTo a c) (c .speed) w (a .position) (a .speed)
 
--- "Otherwise w is replaced by −(smaller of b and v)."
-unfoldable pub drive : Row → (limit : ℕ) → Ahead → Carrier → Wish → Drive
-drive r limit ahead c w =
-    let stays = stands r ahead c (trimmedWish r limit c w) in
+-- what a carrier with a wish of z units does: "Otherwise w is replaced by −(smaller of b and v)."
+unfoldable pub drive : Row → (limit : ℕ) → Ahead → Carrier → ℤ → Drive
+drive r limit ahead c z =
+    let stays = stands r ahead c (trimmed r limit c z) in
     record {
-      outside = isOutside (unitsOf w (c .speed));
       replaced = not stays;
-      acceleration = cond stays (trimmedWish r limit c w) (braking (r .guaranteed) (c .speed));
+      acceleration = cond stays (trimmed r limit c z) (braking (guaranteedRate r c) (c .speed));
     }
 
 -- "One cycle with a: the speed becomes v + a, the position p + 2v + a."
@@ -56,21 +68,16 @@ moved c a =
     record { number = c .number; position = positionAfter (c .position) (c .speed) a; speed = speedAfter (c .speed) a }
 
 -- what each carrier does, front to back, the first of the list behind `ahead`: the carrier ahead is as at the cycle's start
-unfoldable pub drives : Row → (limit : ℕ) → Ahead → List Carrier → List Wish → List Drive
-drives r limit ahead [] ws = []
+unfoldable pub drives : Row → (limit : ℕ) → Ahead → List Carrier → (units : List ℤ) → List Drive
+drives r limit ahead [] zs = []
 drives r limit ahead (c ∷ cs) [] = []
-drives r limit ahead (c ∷ cs) (w ∷ ws) = drive r limit ahead c w ∷ drives r limit (leader c) cs ws
+drives r limit ahead (c ∷ cs) (z ∷ zs) = drive r limit ahead c z ∷ drives r limit (leader c) cs zs
 
 -- all carriers after the cycle
 unfoldable pub allMoved : List Carrier → List Drive → List Carrier
 allMoved [] ds = []
 allMoved (c ∷ cs) [] = []
 allMoved (c ∷ cs) (d ∷ ds) = moved c (d .acceleration) ∷ allMoved cs ds
-
--- some wish is a float outside its range
-unfoldable pub anyOutside : List Drive → Bool
-anyOutside [] = false
-anyOutside (d ∷ ds) = d .outside || anyOutside ds
 
 -- a bit that is set or not
 abbrev pub bit : Bool → ℕ
@@ -92,6 +99,6 @@ abbrev pub replacedIn : List Drive → List Bool
 replacedIn = map (λ d. d .replaced)
 
 -- "A carrier at or past the lane end afterwards is gone, and its place serves again."
-unfoldable pub remaining : (end : ℕ) → List Carrier → List Carrier
-remaining end [] = []
-remaining end (c ∷ cs) = cond (ltb (c .position) end) (c ∷ remaining end cs) (remaining end cs)
+unfoldable pub remaining : Road → List Carrier → List Carrier
+remaining road [] = []
+remaining road (c ∷ cs) = cond (pastEnd road c) (remaining road cs) (c ∷ remaining road cs)

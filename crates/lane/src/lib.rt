@@ -1,11 +1,16 @@
-// The lane's calls: start, enter, leave, cycle, read, lane text. A lane goes in by value and comes back beside the answer.
-// `no` is 0 where a call is accepted, else the number of its refusal, with every value zero and the lane as it was handed in.
+// The lane's calls: start, enter, leave, cycle, read, lane text. A lane is lent and changed in place. `no` is 0 where a call is accepted, else
+// the number of its refusal, with every value zero and every word of the lane as it was.
 ghost use mathlib.Core.Path.{_≡_};
 ghost use mathlib.Core.Bool.{false};
-ghost use lib.ListN.{replicate};
-ghost use Rattle.lane.specs.Calls.{carrier, none};
-ghost use Rattle.lane.specs.Gives.{Starts, Enters, Leaves, Cycles, ReadsOut, Lists};
+ghost use mathlib.Core.List.{[]};
+ghost use lib.Ieee.Exact.{HasValue};
+ghost use Rattle.lane.specs.Layout.{stateOf, emptyWords};
+ghost use Rattle.lane.specs.Calls.{namedCarrier};
+ghost use Rattle.lane.specs.Call.{start-call, enter-call, leave-call, cycle-call, read-call, text-call, bare, entered, cycled, readOut, listed, Gives};
+ghost use Rattle.lane.specs.Given.{GivesWith};
 
+mod given;
+mod layout;
 mod listing;
 mod motion;
 mod places;
@@ -15,23 +20,45 @@ mod rules;
 use wish::Reading;
 use wish::Wish;
 
+// Document 01's limits.
+pub const LAST_SURFACE: u64 = 7;
+
+pub const FARTHEST_END: u64 = 2147483648;
+
+pub const FASTEST: u64 = 8192;
+
+pub const HIGHEST_NUMBER: u64 = 65535;
+
+pub const MOST_CARRIERS: usize = 64;
+
+pub const LAST_CYCLE: u64 = 18446744073709551615;
+
+// The longest lane text.
+pub const LONGEST_TEXT: usize = 2248;
+
+// The keys of a carrier's lines.
+pub const CAR: [u8; 4] = *b"car=";
+
+pub const AT: [u8; 3] = *b"at=";
+
+pub const SPEED: [u8; 6] = *b"speed=";
+
+// A lane's words; `layout` says which is where.
+pub type Lane = [[u64; 8]; 89];
+
 #[repr(C)]
 pub struct Carrier {
-    pub number: u16,
-    pub position: u32,
-    pub speed: u32,
+    pub number: u64,
+    pub position: u64,
+    pub speed: u64,
 }
 
-// The first `count` records are the carriers, front to back.
+// What a start gives of the road: its surface code, the lane's end and the speed limit.
 #[repr(C)]
-pub struct Lane {
-    pub started: bool,
-    pub surface: u32,
-    pub end: u32,
-    pub limit: u32,
-    pub cycle: u64,
-    pub count: usize,
-    pub carriers: [Carrier; 64],
+pub struct Road {
+    pub surface: u64,
+    pub end: u64,
+    pub limit: u64,
 }
 
 // A surface row: guaranteed braking, hardest braking, most acceleration.
@@ -41,25 +68,16 @@ pub struct Row {
     pub most: u32,
 }
 
-// What a carrier does in a cycle: whether its wish is a float outside its range, whether it is replaced, and what is driven.
+// What a carrier does in a cycle: whether its wish is replaced, and what is driven.
 pub struct Drive {
-    pub outside: bool,
     pub replaced: bool,
     pub acceleration: i64,
-}
-
-// What start and leave answer.
-#[repr(C)]
-pub struct Changed {
-    pub no: u32,
-    pub lane: Lane,
 }
 
 #[repr(C)]
 pub struct Entered {
     pub no: u32,
     pub place: usize,
-    pub lane: Lane,
 }
 
 #[repr(C)]
@@ -68,7 +86,6 @@ pub struct Cycled {
     pub word: u64,
     pub replaced: u32,
     pub gone: u32,
-    pub lane: Lane,
 }
 
 #[repr(C)]
@@ -84,154 +101,116 @@ pub struct ReadOut {
 }
 
 // An empty lane that was never started.
-pub fn empty() -> Lane
-    ensures { λ r. ⌜ r ≡ record { started = false; surface = 0; end = 0; limit = 0; cycle = 0; count = 0; carriers = replicate 64 none } ⌝ }
+pub fn empty(l: &mut Lane)
+    ensures { λ r. ⌜ now (l .exit) ≡ emptyWords ⌝ }
 {
-    let nobody = Carrier {
-        number: 0,
-        position: 0,
-        speed: 0,
-    };
-    Lane {
-        started: false,
-        surface: 0,
-        end: 0,
-        limit: 0,
-        cycle: 0,
-        count: 0,
-        carriers: [nobody; 64],
-    }
+    *l = [[0; 8]; 89];
 }
 
-pub fn start(l: Lane, surface: u32, end: u32, limit: u32, cycle: u64) -> Changed
-    ensures { λ r. ⌜ Starts l surface end limit cycle r ⌝ }
+pub fn start(l: &mut Lane, road: Road, first: u64) -> u32
+    ensures { λ r. ⌜ Gives (start-call road first) (now (l .entry)) (bare r []) (now (l .exit)) ⌝ }
 {
-    let no = rules::start_refusal(surface, end, limit);
+    let no = rules::road_refusal(road);
     if no != 0 {
-        return Changed { no, lane: l };
+        return no;
     }
-    let mut next = l;
-    next.started = true;
-    next.surface = surface;
-    next.end = end;
-    next.limit = limit;
-    next.cycle = cycle;
-    next.count = 0;
-    Changed { no: 0, lane: next }
+    layout::put_figures(
+        l,
+        layout::Figures {
+            started: true,
+            road,
+            cycle: first,
+            count: 0,
+        },
+    );
+    0
 }
 
-pub fn enter(l: Lane, number: u16, position: u32, speed: u32) -> Entered
-    ensures { λ r. ⌜ Enters l (carrier number position speed) r ⌝ }
+pub fn enter(l: &mut Lane, c: Carrier) -> Entered
+    ensures { λ r. ⌜ Gives (enter-call c) (now (l .entry)) (entered r) (now (l .exit)) ⌝ }
 {
-    let c = Carrier {
-        number,
-        position,
-        speed,
-    };
     let k = rules::check_enter(l, c);
-    let place = k.place;
     if k.no != 0 {
-        return Entered {
-            no: k.no,
-            place,
-            lane: l,
-        };
+        return Entered { no: k.no, place: 0 };
     }
-    let count = l.count;
-    let carriers = l.carriers;
-    let inserted = places::inserted(carriers, count, place, c);
-    let mut next = l;
-    next.carriers = inserted;
-    next.count = count + 1;
+    places::insert(l, k.place, c);
     Entered {
         no: 0,
-        place,
-        lane: next,
+        place: k.place,
     }
 }
 
-pub fn leave(l: Lane, number: u16) -> Changed
-    ensures { λ r. ⌜ Leaves l number r ⌝ }
+pub fn leave(l: &mut Lane, number: u64) -> u32
+    ensures { λ r. ⌜ Gives (leave-call number) (now (l .entry)) (bare r []) (now (l .exit)) ⌝ }
 {
     let k = rules::check_named(l, number);
-    let place = k.place;
     if k.no != 0 {
-        return Changed { no: k.no, lane: l };
+        return k.no;
     }
-    let count = l.count;
-    let carriers = l.carriers;
-    let removed = places::removed(carriers, count, place);
-    let mut next = l;
-    next.carriers = removed;
-    next.count = count - 1;
-    Changed { no: 0, lane: next }
+    places::remove(l, k.place);
+    0
 }
 
-// Position and speed of a carrier as doubles. The lane is the host's own and stays as it is.
-pub fn read(l: Lane, number: u16) -> ReadOut
-    ensures { λ r. ⌜ ReadsOut l number r ⌝ }
+// Position and speed of a carrier as doubles.
+pub fn read(l: &Lane, number: u64) -> ReadOut
+    ensures given { λ r. ⌜ Gives (read-call number) (now (l .entry)) (readOut r) (now (l .entry)) ⌝ }
+    ensures exact { λ r. ⌜ (r .no ≡ 0 → HasValue (r .reading .position) false (namedCarrier (stateOf (now (l .entry))) number .position) 2048 × HasValue (r .reading .speed) false (namedCarrier (stateOf (now (l .entry))) number .speed) 128) ⌝ }
 {
     let k = rules::check_named(l, number);
-    let place = k.place;
     if k.no != 0 {
         return ReadOut {
             no: k.no,
             reading: wish::reading_of(0, 0),
         };
     }
-    let c = l.carriers[place];
+    let c = layout::carrier_at(l, k.place);
     ReadOut {
         no: 0,
-        reading: wish::reading_of(c.position, c.speed),
+        reading: wish::reading_of(rules::narrow(c.position), rules::narrow(c.speed)),
     }
 }
 
-// The lane text into a lent buffer, and its length. A buffer of 2,635 bytes holds every text.
-pub fn lane_text(l: Lane, out: &mut [u8]) -> Listed
-    ensures { λ r. ⌜ Lists l (now (out .entry)) r (now (out .exit)) ⌝ }
+// The lane text into a lent buffer, and its length.
+pub fn lane_text(l: &Lane, out: &mut [u8]) -> Listed
+    ensures { λ r. ⌜ Gives (text-call (now (out .entry))) (now (l .entry)) (listed r (now (out .exit))) (now (l .entry)) ⌝ }
 {
     if rules::breaks_rule(l) {
         return Listed { no: 21, length: 0 };
     }
-    let length = listing::text_length(l);
-    if out.len() < length {
+    if listing::longer_than(l, out.len()) {
         return Listed { no: 9, length: 0 };
     }
-    listing::put_text(out, l);
+    let length = listing::put_text(l, out);
     Listed { no: 0, length }
 }
 
 // One cycle. The first `count` wishes are looked at.
-pub fn cycle(l: Lane, count: usize, wishes: [Wish; 64]) -> Cycled
-    ensures { λ r. ⌜ Cycles l count wishes r ⌝ }
+pub fn cycle(l: &mut Lane, count: usize, wishes: [Wish; 64]) -> Cycled
+    ensures { λ r. ⌜ Gives (cycle-call count wishes) (now (l .entry)) (cycled r) (now (l .exit)) ⌝ }
 {
-    let no = rules::check_cycle(l, count);
+    let no = rules::check_ready(l, count);
     if no != 0 {
-        return refused_cycle(l, no);
+        return motion::refused(no);
     }
-    let d = motion::drive_all(l, wishes, rows::row(l.surface));
-    if d.outside {
-        return refused_cycle(l, 7);
+    let mut units = [0i64; 64];
+    if motion::convert(l, count, wishes, &mut units) {
+        return motion::refused(7);
     }
-    let mut next = d.lane;
-    next.cycle = l.cycle + 1;
-    Cycled {
-        no: 0,
-        word: d.word,
-        replaced: u64::count_ones(d.word),
-        gone: (count - next.count) as u32,
-        lane: next,
-    }
+    motion::run(l, count, &units)
 }
 
-fn refused_cycle(l: Lane, no: u32) -> Cycled
-    ensures { λ r. ⌜ r ≡ record { no = no; word = 0; replaced = 0; gone = 0; lane = l } ⌝ }
+// One cycle, with wishes as two arrays, of sorts and of values, of which the first `count` are looked at.
+pub fn cycle_given(l: &mut Lane, count: usize, sorts: &[u8], values: &[u32]) -> Cycled
+    ensures { λ r. ⌜ GivesWith (now (l .entry)) count (now (sorts .entry)) (now (values .entry)) (cycled r) (now (l .exit)) ⌝ }
 {
-    Cycled {
-        no,
-        word: 0,
-        replaced: 0,
-        gone: 0,
-        lane: l,
+    let no = rules::check_ready(l, count);
+    if no != 0 {
+        return motion::refused(no);
     }
+    let mut units = [0i64; 64];
+    let unfit = given::convert(l, count, sorts, values, &mut units);
+    if unfit != 0 {
+        return motion::refused(unfit);
+    }
+    motion::run(l, count, &units)
 }

@@ -1,38 +1,55 @@
 // The lane text: the number of carriers, and then number, position and speed of each, front to back.
 ghost use mathlib.Core.Path.{_≡_};
-ghost use mathlib.Core.List.{_++_};
+ghost use mathlib.Core.Bool.{false};
 ghost use Prim.Native.Nat.{_+_, _≤_};
-ghost use lib.ListN.{length, take};
-ghost use Rattle.text.specs.Ascii.{ascii};
-ghost use Rattle.text.specs.Numbers.{decimal};
-ghost use Rattle.text.specs.Lines.{line, written};
-ghost use Rattle.lane.specs.Listing.{carrierText, carriersText};
+ghost use lib.Dec.{ltb};
+ghost use lib.ListN.{length};
+ghost use Rattle.text.specs.Lines.{written};
+ghost use Rattle.lane.specs.Layout.{stateOf};
+ghost use Rattle.lane.specs.Rules.{broken};
+ghost use Rattle.lane.specs.Listing.{carrierText, laneText};
+use crate::AT;
+use crate::CAR;
 use crate::Carrier;
+use crate::LONGEST_TEXT;
 use crate::Lane;
+use crate::SPEED;
+use crate::layout;
 
-// How long a carrier's three lines are.
+// How long a carrier's lines are.
 fn carrier_length(c: Carrier) -> usize
-    ensures { λ r. ⌜ (r ≡ length (carrierText c)) × (r ≤ 41) ⌝ }
+    ensures { λ r. ⌜ (r ≡ length (carrierText c)) × (r ≤ 76) ⌝ }
 {
     16
-        + text::decimal_length(c.number as u64)
-        + text::decimal_length(c.position as u64)
-        + text::decimal_length(c.speed as u64)
+        + text::decimal_length(c.number)
+        + text::decimal_length(c.position)
+        + text::decimal_length(c.speed)
 }
 
 // How long the text is.
-pub(crate) fn text_length(l: Lane) -> usize
-    requires { ⌜ l .count ≤ 64 ⌝ }
-    ensures { λ r. ⌜ (r ≡ length (line (ascii "cars=") (decimal (l .count)) ++ carriersText (take (l .count) (l .carriers)))) × (r ≤ 2635) ⌝ }
+fn text_length(l: &Lane) -> usize
+    requires { ⌜ stateOf (now l) .count ≤ 64 ⌝ }
+    ensures { λ r. ⌜ r ≡ length (laneText (stateOf (now (l .entry)))) ⌝ }
 {
-    let mut n: usize = 6 + text::decimal_length(l.count as u64);
+    let f = layout::figures_of(l);
+    let mut n: usize = 6 + text::decimal_length(f.count as u64);
     let mut i: usize = 0;
-    while i < l.count {
-        let c = l.carriers[i];
-        n += carrier_length(c);
+    while i < f.count {
+        n += carrier_length(layout::carrier_at(l, i));
         i += 1;
     }
     n
+}
+
+// Whether the text is longer than a buffer of so many bytes. None is longer than the longest, so its length is found for a shorter buffer alone.
+pub(crate) fn longer_than(l: &Lane, size: usize) -> bool
+    requires { ⌜ broken (stateOf (now l)) ≡ false ⌝ }
+    ensures { λ r. ⌜ r ≡ ltb size (length (laneText (stateOf (now (l .entry))))) ⌝ }
+{
+    if size >= LONGEST_TEXT {
+        return false;
+    }
+    size < text_length(l)
 }
 
 fn put_carrier(out: &mut [u8], at: usize, c: Carrier) -> usize
@@ -40,21 +57,23 @@ fn put_carrier(out: &mut [u8], at: usize, c: Carrier) -> usize
     ensures { λ r. ⌜ now (out .exit) ≡ written at (carrierText c) (now (out .entry)) ⌝ }
     ensures { λ r. ⌜ r ≡ at + length (carrierText c) ⌝ }
 {
-    let number = text::put_decimal_line(out, at, b"car=", c.number as u64);
-    let position = text::put_decimal_line(out, number, b"at=", c.position as u64);
-    text::put_decimal_line(out, position, b"speed=", c.speed as u64)
+    let number = text::put_decimal_line(out, at, &CAR, c.number);
+    let position = text::put_decimal_line(out, number, &AT, c.position);
+    text::put_decimal_line(out, position, &SPEED, c.speed)
 }
 
-// The text put at the buffer's start, into which it fits.
-pub(crate) fn put_text(out: &mut [u8], l: Lane)
-    requires { ⌜ (l .count ≤ 64) × (length (line (ascii "cars=") (decimal (l .count)) ++ carriersText (take (l .count) (l .carriers))) ≤ length (now out)) ⌝ }
-    ensures { λ r. ⌜ now (out .exit) ≡ written 0 (line (ascii "cars=") (decimal (l .count)) ++ carriersText (take (l .count) (l .carriers))) (now (out .entry)) ⌝ }
+// The text put at the buffer's start, into which it fits, and its length.
+pub(crate) fn put_text(l: &Lane, out: &mut [u8]) -> usize
+    requires { ⌜ (stateOf (now l) .count ≤ 64) × (length (laneText (stateOf (now l))) ≤ length (now out)) ⌝ }
+    ensures { λ r. ⌜ now (out .exit) ≡ written 0 (laneText (stateOf (now (l .entry)))) (now (out .entry)) ⌝ }
+    ensures { λ r. ⌜ r ≡ length (laneText (stateOf (now (l .entry)))) ⌝ }
 {
-    let mut at = text::put_decimal_line(out, 0, b"cars=", l.count as u64);
+    let f = layout::figures_of(l);
+    let mut at = text::put_decimal_line(out, 0, b"cars=", f.count as u64);
     let mut i: usize = 0;
-    while i < l.count {
-        let c = l.carriers[i];
-        at = put_carrier(out, at, c);
+    while i < f.count {
+        at = put_carrier(out, at, layout::carrier_at(l, i));
         i += 1;
     }
+    at
 }

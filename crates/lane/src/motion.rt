@@ -1,23 +1,30 @@
-// One cycle of all carriers: what each drives, where that leads, and who is left.
+// One cycle of all carriers: their wishes in units, what each drives, where that leads, and who is left.
 ghost use mathlib.Core.Path.{_≡_};
-ghost use mathlib.Core.Bool.{true, false, cond};
+ghost use mathlib.Core.Bool.{false, cond};
 ghost use Prim.Native.Nat.{_+_, _*_, _^_, _≤_, _<_};
-ghost use lib.Dec.{leb, ltb};
 ghost use lib.IntN.{pos, _+ℤ_};
-ghost use lib.ListN.{take};
+ghost use lib.ListN.{length, getD, take, set};
 ghost use Rattle.headway.specs.Motion.{speedAfter};
-ghost use Rattle.lane.specs.State.{stateOf};
-ghost use Rattle.lane.specs.Calls.{withCarriers};
-ghost use Rattle.lane.specs.Safety.{nobody, leader, anyOf};
-ghost use Rattle.lane.specs.Wishes.{isOutside, unitsIn, stands, drive, drives, moved, allMoved, anyOutside, bit, replacedIn, wordOf, remaining};
+ghost use Rattle.wish.specs.Units.{unitsOf};
+ghost use Rattle.lane.specs.Surface.{rowIn};
+ghost use Rattle.lane.specs.Layout.{figuresIn, recordsIn, stateOf};
+ghost use Rattle.lane.specs.Safety.{nobody, leader};
+ghost use Rattle.lane.specs.Rules.{roadNo, pastEnd, faulty};
+ghost use Rattle.lane.specs.Wishes.{isOutside, unitsIn, wishedUnits, anyOutside, stands, drive, drives, moved, allMoved, bit, replacedIn, wordOf, countOf, remaining};
+ghost use Rattle.lane.specs.Calls.{none, atCycle, withCarriers, drivesWith, leftAfter, readyNo};
 use crate::Carrier;
+use crate::Cycled;
 use crate::Drive;
 use crate::Lane;
+use crate::Road;
 use crate::Row;
+use crate::layout;
+use crate::rows;
+use crate::rules;
 use wish::Converted;
 use wish::Wish;
 
-fn is_outside(c: Converted) -> bool
+pub(crate) fn is_outside(c: Converted) -> bool
     ensures { λ r. ⌜ r ≡ isOutside c ⌝ }
 {
     match c {
@@ -26,7 +33,7 @@ fn is_outside(c: Converted) -> bool
     }
 }
 
-fn units_in(c: Converted) -> i64
+pub(crate) fn units_in(c: Converted) -> i64
     ensures { λ r. ⌜ r ≡ unitsIn c ⌝ }
 {
     match c {
@@ -35,65 +42,113 @@ fn units_in(c: Converted) -> i64
     }
 }
 
+// The length of an array behind a reference is known where it is lent as a slice. No code is left of it.
+fn as_slice(s: &[i64]) {}
+
+// There are 64 units.
+pub(crate) fn sized(units: &[i64; 64])
+    ensures { λ r. ⌜ length (now (units .entry)) ≡ 64 ⌝ }
+{
+    as_slice(units);
+}
+
+// The wish of the carrier at a place put in units; true where it is a float outside its range.
+pub(crate) fn convert_one(l: &Lane, place: usize, w: Wish, units: &mut [i64; 64]) -> bool
+    requires { ⌜ (place < 64) × (getD (recordsIn (now l)) place none .speed < 4294967296) ⌝ }
+    ensures { λ r. ⌜ r ≡ isOutside (unitsOf w (getD (recordsIn (now (l .entry))) place none .speed)) ⌝ }
+    ensures { λ r. ⌜ now (units .exit) ≡ set (now (units .entry)) place (unitsIn (unitsOf w (getD (recordsIn (now (l .entry))) place none .speed))) ⌝ }
+{
+    let c = layout::carrier_at(l, place);
+    let converted = wish::units(w, rules::narrow(c.speed));
+    units[place] = units_in(converted);
+    is_outside(converted)
+}
+
+// The wishes of `count` carriers in units; true where one is a float outside its range.
+pub(crate) fn convert(l: &Lane, count: usize, wishes: [Wish; 64], units: &mut [i64; 64]) -> bool
+    requires { ⌜ readyNo (stateOf (now l)) count ≡ 0 ⌝ }
+    ensures { λ r. ⌜ r ≡ anyOutside (take count (recordsIn (now (l .entry)))) (take count wishes) ⌝ }
+    ensures { λ r. ⌜ (r ≡ false → take count (now (units .exit)) ≡ wishedUnits (take count (recordsIn (now (l .entry)))) (take count wishes)) ⌝ }
+{
+    layout::sized(l);
+    sized(units);
+    let mut i: usize = 0;
+    while i < count {
+        let w = wishes[i];
+        if convert_one(l, i, w, units) {
+            return true;
+        }
+        i += 1;
+    }
+    false
+}
+
+// The speed to which an acceleration leads.
+fn next_speed(c: Carrier, acceleration: i64) -> u32
+    requires { ⌜ (pos (c .speed) +ℤ acceleration ≡ pos (speedAfter (c .speed) acceleration)) × ((speedAfter (c .speed) acceleration ≤ 8192) × (c .speed < 4294967296)) ⌝ }
+    ensures { λ r. ⌜ r ≡ speedAfter (c .speed) acceleration ⌝ }
+{
+    ((rules::narrow(c.speed) as i64) + acceleration) as u32
+}
+
 // The trimmed wish w of the carrier stands; `ahead` counts unless the carrier is the foremost.
 fn wish_stands(row: Row, foremost: bool, ahead: Carrier, c: Carrier, w: i64) -> bool
     requires { ⌜ (1 ≤ row .guaranteed) × (1 ≤ row .hardest) ⌝ }
     requires { ⌜ (pos (c .speed) +ℤ w ≡ pos (speedAfter (c .speed) w)) × (speedAfter (c .speed) w ≤ 8192) ⌝ }
+    requires { ⌜ (c .position < 4294967296) × ((c .speed < 4294967296) × ((ahead .position < 4294967296) × (ahead .speed < 4294967296))) ⌝ }
     ensures { λ r. ⌜ r ≡ stands row (cond foremost nobody (leader ahead)) c w ⌝ }
 {
     if foremost {
         return true;
     }
-    let floor = headway::braking(row.guaranteed, c.speed);
-    if w <= floor {
+    let rate = rules::guaranteed_rate(row, c);
+    let v = rules::narrow(c.speed);
+    if w <= headway::braking(rate, v) {
         return true;
     }
-    headway::rests_behind(
-        row.guaranteed,
+    let next = next_speed(c, w);
+    let rest = headway::rest(
         row.hardest,
-        c.position,
-        c.speed,
-        w,
-        ahead.position,
-        ahead.speed,
+        rules::narrow(ahead.position),
+        rules::narrow(ahead.speed),
+    );
+    headway::rests_below(
+        rate,
+        headway::reached(rules::reach_to(ahead, c), v, next),
+        next,
+        rest,
     )
 }
 
-fn drive_one(row: Row, limit: u32, foremost: bool, ahead: Carrier, c: Carrier, w: Wish) -> Drive
+fn drive_one(row: Row, limit: u64, foremost: bool, ahead: Carrier, c: Carrier, units: i64) -> Drive
     requires { ⌜ ((1 ≤ row .guaranteed) × (1 ≤ row .hardest)) × ((c .speed ≤ limit) × (limit ≤ 8192)) ⌝ }
-    ensures { λ r. ⌜ r ≡ drive row limit (cond foremost nobody (leader ahead)) c w ⌝ }
+    requires { ⌜ (c .position < 4294967296) × ((ahead .position < 4294967296) × (ahead .speed < 4294967296)) ⌝ }
+    ensures { λ r. ⌜ r ≡ drive row limit (cond foremost nobody (leader ahead)) c units ⌝ }
     ensures { λ r. ⌜ (pos (c .speed) +ℤ r .acceleration ≡ pos (speedAfter (c .speed) (r .acceleration))) × (speedAfter (c .speed) (r .acceleration) ≤ limit) ⌝ }
 {
-    let v = c.speed;
-    let converted = wish::units(w, v);
-    let outside = is_outside(converted);
-    let trimmed = wish::trimmed(units_in(converted), v, row.hardest, row.most, limit);
+    let v = rules::narrow(c.speed);
+    let trimmed = wish::trimmed(units, v, row.hardest, row.most, rules::narrow(limit));
     if wish_stands(row, foremost, ahead, c, trimmed) {
         return Drive {
-            outside,
             replaced: false,
             acceleration: trimmed,
         };
     }
     Drive {
-        outside,
         replaced: true,
-        acceleration: headway::braking(row.guaranteed, v),
+        acceleration: headway::braking(rules::guaranteed_rate(row, c), v),
     }
 }
 
 fn move_one(c: Carrier, acceleration: i64) -> Carrier
-    requires { ⌜ (pos (c .speed) +ℤ acceleration ≡ pos (speedAfter (c .speed) acceleration)) × ((speedAfter (c .speed) acceleration ≤ 8192) × ((c .position < 2147483648) × (c .speed ≤ 8192))) ⌝ }
+    requires { ⌜ (pos (c .speed) +ℤ acceleration ≡ pos (speedAfter (c .speed) acceleration)) × ((speedAfter (c .speed) acceleration ≤ 8192) × ((c .position < 4294967296) × (c .speed < 4294967296))) ⌝ }
     ensures { λ r. ⌜ r ≡ moved c acceleration ⌝ }
 {
-    let m = headway::after_cycle(c.position, c.speed, acceleration);
-    match m {
-        headway::Moved::To(position, speed) => Carrier {
-            number: c.number,
-            position: position as u32,
-            speed,
-        },
-        headway::Moved::Outside => c,
+    let next = next_speed(c, acceleration);
+    Carrier {
+        number: c.number,
+        position: headway::reached(rules::narrow(c.position), rules::narrow(c.speed), next),
+        speed: next as u64,
     }
 }
 
@@ -105,51 +160,83 @@ fn marked(word: u64, i: usize, flag: bool) -> u64
     if flag { word | (1u64 << i) } else { word }
 }
 
-// The lane after the cycle but for its number, and the word; nothing else counts where `outside` is true.
-pub(crate) struct Driven {
-    pub(crate) outside: bool,
+// How many carriers are left, and the word.
+pub(crate) struct Left {
+    pub(crate) count: usize,
     pub(crate) word: u64,
-    pub(crate) lane: Lane,
 }
 
-pub(crate) fn drive_all(l: Lane, wishes: [Wish; 64], row: Row) -> Driven
-    requires { ⌜ ((1 ≤ row .guaranteed) × (1 ≤ row .hardest)) × ((l .count ≤ 64) × ((l .end ≤ 2147483648) × (l .limit ≤ 8192))) ⌝ }
-    requires { ⌜ (anyOf (λ c. ltb (l .limit) (c .speed)) (take (l .count) (l .carriers)) ≡ false) × (anyOf (λ c. leb (l .end) (c .position)) (take (l .count) (l .carriers)) ≡ false) ⌝ }
-    ensures { λ r. ⌜ r .outside ≡ anyOutside (drives row (l .limit) nobody (take (l .count) (l .carriers)) (take (l .count) wishes)) ⌝ }
-    ensures { λ r. ⌜ (r .outside ≡ false → r .word ≡ wordOf (replacedIn (drives row (l .limit) nobody (take (l .count) (l .carriers)) (take (l .count) wishes)))) ⌝ }
-    ensures { λ r. ⌜ (r .outside ≡ false → stateOf (r .lane) ≡ withCarriers (stateOf l) (remaining (l .end) (allMoved (take (l .count) (l .carriers)) (drives row (l .limit) nobody (take (l .count) (l .carriers)) (take (l .count) wishes))))) ⌝ }
-    ensures { λ r. ⌜ r .lane .count ≤ l .count ⌝ }
+// The carrier of a place, as it has moved, put behind the `left` ones that are left, unless it is gone; how many are left then.
+fn keep(l: &mut Lane, road: Road, from: usize, left: usize, c: Carrier) -> usize
+    requires { ⌜ (from < 64) × ((left < 64) × (getD (recordsIn (now l)) from none .number ≡ c .number)) ⌝ }
+    ensures { λ r. ⌜ figuresIn (now (l .exit)) ≡ figuresIn (now (l .entry)) ⌝ }
+    ensures { λ r. ⌜ recordsIn (now (l .exit)) ≡ cond (pastEnd road c) (recordsIn (now (l .entry))) (set (recordsIn (now (l .entry))) left c) ⌝ }
+    ensures { λ r. ⌜ r ≡ cond (pastEnd road c) left (left + 1) ⌝ }
 {
-    let mut next = l;
+    if rules::past_end(road, c) {
+        return left;
+    }
+    layout::move_record(l, from, left, c.position, c.speed);
+    left + 1
+}
+
+// All carriers driven: a record is read before the one that takes its place is put.
+fn drive_all(l: &mut Lane, road: Road, count: usize, units: &[i64; 64]) -> Left
+    requires { ⌜ (count ≤ 64) × ((roadNo road ≡ 0) × (faulty road (take count (recordsIn (now l))) ≡ false)) ⌝ }
+    requires { ⌜ length (recordsIn (now l)) ≡ 64 ⌝ }
+    ensures { λ r. ⌜ r .word ≡ wordOf (replacedIn (drives (rowIn road) (road .limit) nobody (take count (recordsIn (now (l .entry)))) (take count (now (units .entry))))) ⌝ }
+    ensures { λ r. ⌜ take (r .count) (recordsIn (now (l .exit))) ≡ remaining road (allMoved (take count (recordsIn (now (l .entry)))) (drives (rowIn road) (road .limit) nobody (take count (recordsIn (now (l .entry)))) (take count (now (units .entry))))) ⌝ }
+    ensures { λ r. ⌜ (r .count ≤ count) × ((figuresIn (now (l .exit)) ≡ figuresIn (now (l .entry))) × (length (recordsIn (now (l .exit))) ≡ 64)) ⌝ }
+{
+    sized(units);
+    let row = rows::row_in(road);
     let mut left: usize = 0;
     let mut word: u64 = 0;
     // Nobody is ahead of the foremost carrier, so that any record will do at first.
-    let mut ahead = l.carriers[0];
+    let mut ahead = Carrier {
+        number: 0,
+        position: 0,
+        speed: 0,
+    };
     let mut i: usize = 0;
-    while i < l.count {
-        let c = l.carriers[i];
-        let w = wishes[i];
-        let d = drive_one(row, l.limit, i == 0, ahead, c, w);
-        if d.outside {
-            return Driven {
-                outside: true,
-                word,
-                lane: next,
-            };
-        }
+    while i < count {
+        let c = layout::carrier_at(l, i);
+        let d = drive_one(row, road.limit, i == 0, ahead, c, units[i]);
         word = marked(word, i, d.replaced);
-        let m = move_one(c, d.acceleration);
-        if m.position < l.end {
-            next.carriers[left] = m;
-            left += 1;
-        }
+        left = keep(l, road, i, left, move_one(c, d.acceleration));
         ahead = c;
         i += 1;
     }
-    next.count = left;
-    Driven {
-        outside: false,
-        word,
-        lane: next,
+    Left { count: left, word }
+}
+
+pub(crate) fn refused(no: u32) -> Cycled
+    ensures { λ r. ⌜ r ≡ record { no = no; word = 0; replaced = 0; gone = 0 } ⌝ }
+{
+    Cycled {
+        no,
+        word: 0,
+        replaced: 0,
+        gone: 0,
+    }
+}
+
+// A cycle of a lane that is ready for it, with the wishes in units.
+pub(crate) fn run(l: &mut Lane, count: usize, units: &[i64; 64]) -> Cycled
+    requires { ⌜ readyNo (stateOf (now l)) count ≡ 0 ⌝ }
+    ensures { λ r. ⌜ r .no ≡ 0 ⌝ }
+    ensures { λ r. ⌜ r .word ≡ wordOf (replacedIn (drivesWith (stateOf (now (l .entry))) (take count (now (units .entry))))) ⌝ }
+    ensures { λ r. ⌜ r .replaced ≡ countOf (replacedIn (drivesWith (stateOf (now (l .entry))) (take count (now (units .entry))))) ⌝ }
+    ensures { λ r. ⌜ r .gone + stateOf (now (l .exit)) .count ≡ count ⌝ }
+    ensures { λ r. ⌜ stateOf (now (l .exit)) ≡ atCycle (stateOf (now (l .entry)) .cycle + 1) (withCarriers (stateOf (now (l .entry))) (leftAfter (stateOf (now (l .entry))) (drivesWith (stateOf (now (l .entry))) (take count (now (units .entry)))))) ⌝ }
+{
+    let f = layout::figures_of(l);
+    let left = drive_all(l, f.road, count, units);
+    layout::put_count(l, f.cycle + 1, left.count);
+    Cycled {
+        no: 0,
+        word: left.word,
+        replaced: u64::count_ones(left.word),
+        gone: (count - left.count) as u32,
     }
 }

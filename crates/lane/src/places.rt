@@ -1,23 +1,27 @@
 // Places on the lane: where an entry goes, where a number stands, and the records moved to make or close a gap.
 ghost use mathlib.Core.Path.{_≡_};
-ghost use Prim.Native.Nat.{_+_, _-_, _<_, _≤_};
+ghost use Prim.Native.Nat.{_+_, _≤_, _<_};
 ghost use lib.ListN.{take};
 ghost use lib.Seq.{slice};
+ghost use Rattle.lane.specs.Layout.{recordsIn, stateOf};
 ghost use Rattle.lane.specs.Safety.{firstPlace, numbered};
-ghost use Rattle.lane.specs.Calls.{walk, insertAt, removeAt};
+ghost use Rattle.lane.specs.Calls.{withCarriers, walk, insertAt, removeAt};
 use crate::Carrier;
+use crate::Lane;
+use crate::layout;
 
 // The walk goes front to back and ends at the first carrier whose position is lower.
-pub(crate) fn entry_place(carriers: [Carrier; 64], count: usize, position: u32) -> usize
+pub(crate) fn entry_place(l: &Lane, count: usize, position: u64) -> usize
     requires { ⌜ count ≤ 64 ⌝ }
-    ensures { λ r. ⌜ r ≡ walk position (take count carriers) ⌝ }
+    ensures { λ r. ⌜ r ≡ walk position (take count (recordsIn (now (l .entry)))) ⌝ }
 {
+    layout::sized(l);
     let mut i: usize = 0;
     let place = loop {
         if count <= i {
             break i;
         }
-        let c = carriers[i];
+        let c = layout::carrier_at(l, i);
         if c.position < position {
             break i;
         }
@@ -27,13 +31,14 @@ pub(crate) fn entry_place(carriers: [Carrier; 64], count: usize, position: u32) 
 }
 
 // The first place from `from` on with the number, or `count` if there is none.
-pub(crate) fn find_from(carriers: [Carrier; 64], from: usize, count: usize, number: u16) -> usize
+pub(crate) fn find_from(l: &Lane, from: usize, count: usize, number: u64) -> usize
     requires { ⌜ (from ≤ count) × (count ≤ 64) ⌝ }
-    ensures { λ r. ⌜ r ≡ from + firstPlace (numbered number) (slice from count carriers) ⌝ }
+    ensures { λ r. ⌜ r ≡ from + firstPlace (numbered number) (slice from count (recordsIn (now (l .entry)))) ⌝ }
 {
+    layout::sized(l);
     let mut i = from;
     while i < count {
-        let c = carriers[i];
+        let c = layout::carrier_at(l, i);
         if c.number == number {
             return i;
         }
@@ -42,38 +47,33 @@ pub(crate) fn find_from(carriers: [Carrier; 64], from: usize, count: usize, numb
     i
 }
 
-// The records from `place` on moved one back, and the carrier put in.
-pub(crate) fn inserted(
-    carriers: [Carrier; 64],
-    count: usize,
-    place: usize,
-    c: Carrier,
-) -> [Carrier; 64]
-    requires { ⌜ (place ≤ count) × (count < 64) ⌝ }
-    ensures { λ r. ⌜ take (count + 1) r ≡ insertAt place c (take count carriers) ⌝ }
+// The carriers from `place` on moved one back, and the newcomer put in.
+pub(crate) fn insert(l: &mut Lane, place: usize, c: Carrier)
+    requires { ⌜ (place ≤ stateOf (now l) .count) × (stateOf (now l) .count < 64) ⌝ }
+    ensures { λ r. ⌜ stateOf (now (l .exit)) ≡ withCarriers (stateOf (now (l .entry))) (insertAt place c (stateOf (now (l .entry)) .carriers)) ⌝ }
 {
-    let mut a = carriers;
+    let f = layout::figures_of(l);
+    let count = f.count;
     let mut i = count;
     while place < i {
-        let x = a[i - 1];
-        a[i] = x;
+        layout::copy_record(l, i - 1, i);
         i -= 1;
     }
-    a[place] = c;
-    a
+    layout::put_carrier(l, place, c);
+    layout::put_count(l, f.cycle, count + 1);
 }
 
-// The records past `place` moved one forward over it.
-pub(crate) fn removed(carriers: [Carrier; 64], count: usize, place: usize) -> [Carrier; 64]
-    requires { ⌜ (place < count) × (count ≤ 64) ⌝ }
-    ensures { λ r. ⌜ take (count - 1) r ≡ removeAt place (take count carriers) ⌝ }
+// The carriers past `place` moved one forward over it.
+pub(crate) fn remove(l: &mut Lane, place: usize)
+    requires { ⌜ (place < stateOf (now l) .count) × (stateOf (now l) .count ≤ 64) ⌝ }
+    ensures { λ r. ⌜ stateOf (now (l .exit)) ≡ withCarriers (stateOf (now (l .entry))) (removeAt place (stateOf (now (l .entry)) .carriers)) ⌝ }
 {
-    let mut a = carriers;
-    let mut i = place + 1;
-    while i < count {
-        let x = a[i];
-        a[i - 1] = x;
+    let f = layout::figures_of(l);
+    let last = f.count - 1;
+    let mut i = place;
+    while i < last {
+        layout::copy_record(l, i + 1, i);
         i += 1;
     }
-    a
+    layout::put_count(l, f.cycle, last);
 }

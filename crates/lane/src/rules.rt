@@ -1,101 +1,229 @@
 // The checks of each call, in the document's order, and the rules of a lane behind check 21.
 ghost use mathlib.Core.Path.{_≡_};
-ghost use mathlib.Core.Bool.{_||_, not, cond};
-ghost use Prim.Native.Nat.{_≤_};
-ghost use lib.Dec.{eqb, leb, ltb};
-ghost use lib.ListN.{take};
-ghost use Rattle.lane.specs.State.{stateOf};
-ghost use Rattle.lane.specs.Safety.{leader, safeWith, numbered};
-ghost use Rattle.lane.specs.Calls.{badEnd, badLimit, broken, startNo, gapNo, enterNo, enterPlace, namedNo, namedPlace};
+ghost use mathlib.Core.Bool.{false};
+ghost use Prim.Native.Nat.{ℕ, _+_, _%_, _≤_, _<_};
+ghost use lib.ListN.{length, getD, take};
+ghost use lib.Seq.{slice};
+ghost use Rattle.headway.specs.Totals.{restOf};
+ghost use Rattle.lane.specs.Surface.{rowIn};
+ghost use Rattle.lane.specs.Layout.{recordsIn, stateOf};
+ghost use Rattle.lane.specs.Safety.{leader, guaranteedRate, reachTo, safeWith, anyOf, numbered};
+ghost use Rattle.lane.specs.Rules.{badNumber, roadNo, unlawful as unlawfulIn, pastEnd, faulty, broken, newcomerNo};
+ghost use Rattle.lane.specs.Calls.{none, ifAccepted, walk, gapNo, placeNo, enterNo, namedNo, placeOf, readyNo};
 use crate::Carrier;
+use crate::FARTHEST_END;
+use crate::FASTEST;
+use crate::HIGHEST_NUMBER;
+use crate::LAST_CYCLE;
+use crate::LAST_SURFACE;
 use crate::Lane;
+use crate::MOST_CARRIERS;
+use crate::Road;
 use crate::Row;
+use crate::layout;
 use crate::places;
 use crate::rows;
 
-fn bad_end(end: u32) -> bool
-    ensures { λ r. ⌜ r ≡ badEnd end ⌝ }
+// A number of a lawful carrier, which 32 bits hold.
+pub(crate) fn narrow(x: u64) -> u32
+    requires { ⌜ x < 4294967296 ⌝ }
+    ensures { λ r. ⌜ r ≡ x ⌝ }
 {
-    (end < 1) | (2147483648 < end)
+    x as u32
 }
 
-fn bad_limit(limit: u32) -> bool
-    ensures { λ r. ⌜ r ≡ badLimit limit ⌝ }
+// The checks of start.
+pub(crate) fn road_refusal(road: Road) -> u32
+    ensures { λ r. ⌜ r ≡ roadNo road ⌝ }
 {
-    (limit < 1) | (8192 < limit)
-}
-
-pub(crate) fn start_refusal(surface: u32, end: u32, limit: u32) -> u32
-    ensures { λ r. ⌜ r ≡ startNo surface end limit ⌝ }
-{
-    if 7 < surface {
+    if LAST_SURFACE < road.surface {
         return 1;
     }
-    if bad_end(end) {
-        return 2;
-    }
-    if bad_limit(limit) {
+    if (1 <= road.end) & (road.end <= FARTHEST_END) {
+        if (1 <= road.limit) & (road.limit <= FASTEST) {
+            return 0;
+        }
         return 3;
+    }
+    2
+}
+
+fn bad_number(number: u64) -> bool
+    ensures { λ r. ⌜ r ≡ badNumber number ⌝ }
+{
+    (number < 1) | (HIGHEST_NUMBER < number)
+}
+
+// A carrier breaks a rule by itself.
+fn unlawful(road: Road, c: Carrier) -> bool
+    ensures { λ r. ⌜ r ≡ unlawfulIn road c ⌝ }
+{
+    bad_number(c.number) | (road.limit < c.speed)
+}
+
+// A carrier is at or past the lane end.
+pub(crate) fn past_end(road: Road, c: Carrier) -> bool
+    ensures { λ r. ⌜ r ≡ pastEnd road c ⌝ }
+{
+    road.end <= c.position
+}
+
+// The checks of a newcomer's own values.
+fn newcomer_refusal(road: Road, c: Carrier) -> u32
+    ensures { λ r. ⌜ r ≡ newcomerNo road c ⌝ }
+{
+    if bad_number(c.number) {
+        return 4;
+    }
+    if road.end <= c.position {
+        return 5;
+    }
+    if road.limit < c.speed {
+        return 6;
     }
     0
 }
 
-// A carrier breaks a rule by itself.
-fn unlawful(c: Carrier, end: u32, limit: u32) -> bool
-    ensures { λ r. ⌜ r ≡ (numbered 0 c || ltb limit (c .speed) || leb end (c .position)) ⌝ }
+// The rate at which a carrier is sure to brake.
+pub(crate) fn guaranteed_rate(row: Row, c: Carrier) -> u32
+    ensures { λ r. ⌜ r ≡ guaranteedRate row c ⌝ }
 {
-    (c.number == 0) | (limit < c.speed) | (end <= c.position)
+    row.guaranteed
+}
+
+// The position that must stay below the one of the carrier ahead.
+pub(crate) fn reach_to(ahead: Carrier, c: Carrier) -> u32
+    requires { ⌜ c .position < 4294967296 ⌝ }
+    ensures { λ r. ⌜ r ≡ reachTo ahead c ⌝ }
+{
+    narrow(c.position)
+}
+
+// Where a lawful carrier comes to rest that brakes at a rate.
+fn rest(rate: u32, c: Carrier) -> u64
+    requires { ⌜ (c .position < 4294967296) × (c .speed < 4294967296) ⌝ }
+    ensures { λ r. ⌜ r ≡ restOf rate (c .position) (c .speed) ⌝ }
+{
+    headway::rest(rate, narrow(c.position), narrow(c.speed))
+}
+
+// The follower, whose rest is known, is safe behind the carrier ahead.
+fn safe_at(row: Row, ahead: Carrier, c: Carrier, stop: u64) -> bool
+    requires { ⌜ ((1 ≤ row .guaranteed) × (1 ≤ row .hardest)) × (stop ≡ restOf (guaranteedRate row c) (c .position) (c .speed)) ⌝ }
+    requires { ⌜ (c .position < 4294967296) × ((ahead .position < 4294967296) × (ahead .speed < 4294967296)) ⌝ }
+    ensures { λ r. ⌜ r ≡ safeWith row (leader ahead) c ⌝ }
+{
+    if narrow(ahead.position) <= reach_to(ahead, c) {
+        return false;
+    }
+    stop < rest(row.hardest, ahead)
 }
 
 // The follower is safe behind the carrier ahead.
 fn safe(row: Row, ahead: Carrier, c: Carrier) -> bool
     requires { ⌜ (1 ≤ row .guaranteed) × (1 ≤ row .hardest) ⌝ }
+    requires { ⌜ (c .position < 4294967296) × ((c .speed < 4294967296) × ((ahead .position < 4294967296) × (ahead .speed < 4294967296))) ⌝ }
     ensures { λ r. ⌜ r ≡ safeWith row (leader ahead) c ⌝ }
 {
-    headway::safe_behind(
-        row.guaranteed,
-        row.hardest,
-        c.position,
-        c.speed,
-        ahead.position,
-        ahead.speed,
-    )
+    safe_at(row, ahead, c, rest(guaranteed_rate(row, c), c))
 }
 
-// Check 21: the bounds, and then each carrier by itself, with the one behind it and by its number. From the back: a number whose low byte no
-// carrier passed has is new, and only the others are searched for.
-pub(crate) fn breaks_rule(l: Lane) -> bool
-    ensures { λ r. ⌜ r ≡ broken (stateOf l) ⌝ }
+// Some carrier from a place on has the number. Its place is not asked for: a search with no place to tell is shorter.
+fn numbered_from(l: &Lane, from: usize, count: usize, number: u64) -> bool
+    requires { ⌜ (from ≤ count) × ((count ≤ 64) × (length (recordsIn (now l)) ≡ 64)) ⌝ }
+    ensures { λ r. ⌜ r ≡ anyOf (numbered number) (slice from count (recordsIn (now (l .entry)))) ⌝ }
 {
-    let count = l.count;
-    if !l.started | (7 < l.surface) | bad_end(l.end) | bad_limit(l.limit) | (64 < count) {
-        return true;
-    }
-    let row = rows::row(l.surface);
-    let mut met = [false; 256];
-    let mut i = count;
-    while 0 < i {
-        let c = l.carriers[i - 1];
-        if unlawful(c, l.end, l.limit) {
+    let mut i = from;
+    while i < count {
+        let c = layout::carrier_at(l, i);
+        if c.number == number {
             return true;
         }
-        if i < count {
-            let follower = l.carriers[i];
-            if !safe(row, c, follower) {
-                return true;
-            }
-        }
-        let low = (c.number % 256) as usize;
-        if met[low] {
-            let carriers = l.carriers;
-            if places::find_from(carriers, i, count, c.number) < count {
-                return true;
-            }
-        }
-        met[low] = true;
-        i -= 1;
+        i += 1;
     }
     false
+}
+
+fn place_of(mark: u8) -> usize
+    ensures { λ r. ⌜ r ≡ mark ⌝ }
+{
+    mark as usize
+}
+
+// Some carrier from `first` on has the number, of those alike in their low six bits: `next` leads from each of them to the next.
+fn linked(l: &Lane, next: &[u8; 64], first: usize, count: usize, number: u64) -> bool
+    requires { ⌜ (count ≤ 64) × (length (recordsIn (now l)) ≡ 64) ⌝ }
+    requires { ⌜ (first < count → getD (recordsIn (now l)) first none .number % 64 ≡ number % 64) ⌝ }
+    requires { ⌜ ((p : ℕ) → first ≤ p → p < count → getD (recordsIn (now l)) p none .number % 64 ≡ number % 64 → (p < getD (now next) p 0) × ((anyOf (numbered number) (slice (p + 1) count (recordsIn (now l))) ≡ anyOf (numbered number) (slice (getD (now next) p 0) count (recordsIn (now l)))) × (getD (now next) p 0 < count → getD (recordsIn (now l)) (getD (now next) p 0) none .number % 64 ≡ number % 64))) ⌝ }
+    ensures { λ r. ⌜ r ≡ anyOf (numbered number) (slice first count (recordsIn (now (l .entry)))) ⌝ }
+{
+    let mut place = first;
+    while place < count {
+        let c = layout::carrier_at(l, place);
+        if c.number == number {
+            return true;
+        }
+        place = place_of(next[place]);
+    }
+    false
+}
+
+// The carriers break a rule, looked at from the back. A number is searched for among those alike in their low six bits: `first` has the place of the
+// first of each sort so far, and `next` links it to the others.
+fn any_fault(l: &Lane, road: Road, count: usize) -> bool
+    requires { ⌜ (count ≤ 64) × ((length (recordsIn (now l)) ≡ 64) × (roadNo road ≡ 0)) ⌝ }
+    ensures { λ r. ⌜ r ≡ faulty road (take count (recordsIn (now (l .entry)))) ⌝ }
+{
+    let row = rows::row_in(road);
+    let mut first: [u8; 64] = [64; 64];
+    let mut next: [u8; 64] = [64; 64];
+    let mut behind = Carrier {
+        number: 0,
+        position: 0,
+        speed: 0,
+    };
+    let mut stop: u64 = 0;
+    let mut i = count;
+    while 0 < i {
+        i -= 1;
+        let c = layout::carrier_at(l, i);
+        if unlawful(road, c) | past_end(road, c) {
+            return true;
+        }
+        if i + 1 < count {
+            if !safe_at(row, c, behind, stop) {
+                return true;
+            }
+        }
+        behind = c;
+        stop = rest(guaranteed_rate(row, c), c);
+        let sort = (c.number % 64) as usize;
+        let mark = first[sort];
+        if linked(l, &next, place_of(mark), count, c.number) {
+            return true;
+        }
+        next[i] = mark;
+        first[sort] = i as u8;
+    }
+    false
+}
+
+// Check 21.
+pub(crate) fn breaks_rule(l: &Lane) -> bool
+    ensures { λ r. ⌜ r ≡ broken (stateOf (now (l .entry))) ⌝ }
+{
+    let f = layout::figures_of(l);
+    let road = f.road;
+    if !f.started {
+        return true;
+    }
+    if road_refusal(road) != 0 {
+        return true;
+    }
+    if MOST_CARRIERS < f.count {
+        return true;
+    }
+    any_fault(l, road, f.count)
 }
 
 // A check's number, 0 where all are passed, and the place that the call is about.
@@ -105,92 +233,99 @@ pub(crate) struct Checked {
 }
 
 fn refused(no: u32) -> Checked
-    ensures { λ r. ⌜ (r .no ≡ no) × (r .place ≡ 0) ⌝ }
+    ensures { λ r. ⌜ r ≡ record { no = no; place = 0 } ⌝ }
 {
     Checked { no, place: 0 }
 }
 
-// The carriers next to a place: 25 and 26.
-fn gap_refusal(carriers: [Carrier; 64], count: usize, place: usize, row: Row, c: Carrier) -> u32
-    requires { ⌜ ((count ≤ 64) × (place ≤ count)) × ((1 ≤ row .guaranteed) × (1 ≤ row .hardest)) ⌝ }
-    ensures { λ r. ⌜ r ≡ gapNo row place c (take count carriers) ⌝ }
+// The carriers next to a place, where none breaks a rule, nor the newcomer by itself: 25 and 26.
+fn gap_refusal(l: &Lane, road: Road, count: usize, place: usize, c: Carrier) -> u32
+    requires { ⌜ (place ≤ count) × ((count ≤ 64) × (length (recordsIn (now l)) ≡ 64)) ⌝ }
+    requires { ⌜ (roadNo road ≡ 0) × ((newcomerNo road c ≡ 0) × (faulty road (take count (recordsIn (now l))) ≡ false)) ⌝ }
+    ensures { λ r. ⌜ r ≡ gapNo (rowIn road) place c (take count (recordsIn (now (l .entry)))) ⌝ }
 {
+    let row = rows::row_in(road);
     if 0 < place {
-        let ahead = carriers[place - 1];
-        if !safe(row, ahead, c) {
+        if !safe(row, layout::carrier_at(l, place - 1), c) {
             return 25;
         }
     }
     if place < count {
-        let behind = carriers[place];
-        if !safe(row, c, behind) {
+        if !safe(row, c, layout::carrier_at(l, place)) {
             return 26;
         }
     }
     0
 }
 
-pub(crate) fn check_enter(l: Lane, c: Carrier) -> Checked
-    ensures { λ r. ⌜ (r .no ≡ enterNo (stateOf l) c) × (r .place ≡ enterPlace (stateOf l) c) ⌝ }
+// The checks of a place for a newcomer, on a lane that breaks no rule: 22, 23, 25, 26.
+fn find_place(l: &Lane, c: Carrier) -> Checked
+    requires { ⌜ (broken (stateOf (now l)) ≡ false) × (newcomerNo (stateOf (now l) .road) c ≡ 0) ⌝ }
+    ensures { λ r. ⌜ (r .no ≡ placeNo (stateOf (now (l .entry))) c) × (r .place ≡ ifAccepted (placeNo (stateOf (now (l .entry))) c) (walk (c .position) (stateOf (now (l .entry)) .carriers)) 0) ⌝ }
 {
-    if breaks_rule(l) {
-        return refused(21);
-    }
-    if c.number == 0 {
-        return refused(4);
-    }
-    if l.end <= c.position {
-        return refused(5);
-    }
-    if l.limit < c.speed {
-        return refused(6);
-    }
-    let count = l.count;
-    if count == 64 {
+    let f = layout::figures_of(l);
+    let road = f.road;
+    let count = f.count;
+    if count == MOST_CARRIERS {
         return refused(22);
     }
-    let carriers = l.carriers;
-    if places::find_from(carriers, 0, count, c.number) < count {
+    if numbered_from(l, 0, count, c.number) {
         return refused(23);
     }
-    let place = places::entry_place(carriers, count, c.position);
-    let no = gap_refusal(carriers, count, place, rows::row(l.surface), c);
+    let place = places::entry_place(l, count, c.position);
+    let no = gap_refusal(l, road, count, place, c);
     if no != 0 {
         return refused(no);
     }
     Checked { no: 0, place }
 }
 
-// The checks of leave and read.
-pub(crate) fn check_named(l: Lane, number: u16) -> Checked
-    ensures { λ r. ⌜ (r .no ≡ namedNo (stateOf l) number) × (r .place ≡ namedPlace (stateOf l) number) ⌝ }
+pub(crate) fn check_enter(l: &Lane, c: Carrier) -> Checked
+    ensures { λ r. ⌜ (r .no ≡ enterNo (stateOf (now (l .entry))) c) × (r .place ≡ ifAccepted (enterNo (stateOf (now (l .entry))) c) (walk (c .position) (stateOf (now (l .entry)) .carriers)) 0) ⌝ }
 {
     if breaks_rule(l) {
         return refused(21);
     }
-    if number == 0 {
+    let f = layout::figures_of(l);
+    let road = f.road;
+    let no = newcomer_refusal(road, c);
+    if no != 0 {
+        return refused(no);
+    }
+    find_place(l, c)
+}
+
+// The checks of leave and read.
+pub(crate) fn check_named(l: &Lane, number: u64) -> Checked
+    ensures { λ r. ⌜ (r .no ≡ namedNo (stateOf (now (l .entry))) number) × (r .place ≡ ifAccepted (namedNo (stateOf (now (l .entry))) number) (placeOf number (stateOf (now (l .entry)) .carriers)) 0) ⌝ }
+{
+    if breaks_rule(l) {
+        return refused(21);
+    }
+    if bad_number(number) {
         return refused(4);
     }
-    let count = l.count;
-    let carriers = l.carriers;
-    let place = places::find_from(carriers, 0, count, number);
+    let f = layout::figures_of(l);
+    let count = f.count;
+    let place = places::find_from(l, 0, count, number);
     if count <= place {
         return refused(24);
     }
     Checked { no: 0, place }
 }
 
-// The checks of cycle but for the wishes' ranges.
-pub(crate) fn check_cycle(l: Lane, count: usize) -> u32
-    ensures { λ r. ⌜ r ≡ cond (broken (stateOf l)) 21 (cond (not (eqb count (l .count))) 27 (cond (eqb (l .cycle) 18446744073709551615) 28 0)) ⌝ }
+// The checks of cycle before the wishes are looked at.
+pub(crate) fn check_ready(l: &Lane, count: usize) -> u32
+    ensures { λ r. ⌜ r ≡ readyNo (stateOf (now (l .entry))) count ⌝ }
 {
     if breaks_rule(l) {
         return 21;
     }
-    if count != l.count {
+    let f = layout::figures_of(l);
+    if count != f.count {
         return 27;
     }
-    if l.cycle == 18446744073709551615 {
+    if f.cycle == LAST_CYCLE {
         return 28;
     }
     0

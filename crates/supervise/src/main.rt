@@ -3,13 +3,14 @@ mod pipe;
 
 // The blocks in turn, until one stops the program, or the output is closed. A step that does not stop takes at least one byte.
 fn run(input: &[u8]) {
-    let mut lane = lane::empty();
-    let mut space = [0u8; 4096];
+    let mut lane = [[0u64; 8]; 89];
+    lane::empty(&mut lane);
+    let mut space = [0u8; console::ANSWER_SPACE];
     let mut at: usize = 0;
     let mut turns = input.len();
     while turns > 0 {
         let out: &mut [u8] = &mut space;
-        let s = console::step(lane, input, at, out);
+        let s = console::step(&mut lane, input, at, out);
         let n = s.written;
         if !pipe::write_whole(&space[..n]) {
             return;
@@ -17,7 +18,6 @@ fn run(input: &[u8]) {
         if s.stop {
             return;
         }
-        lane = s.lane;
         at = s.next;
         turns -= 1;
     }
@@ -26,7 +26,7 @@ fn run(input: &[u8]) {
 // The space is one byte longer than an input may be. Of a longer one nothing is run.
 fn supervise(space: &mut [u8]) {
     let n = pipe::read_whole(space);
-    let mut line = [0u8; 4096];
+    let mut line = [0u8; console::ANSWER_SPACE];
     let out: &mut [u8] = &mut line;
     let w = console::refuse_long(n, out);
     if w > 0 {
@@ -37,6 +37,6 @@ fn supervise(space: &mut [u8]) {
 }
 
 fn main() {
-    let mut space = [0u8; 65537];
+    let mut space = [0u8; console::LONGEST_INPUT + 1];
     supervise(&mut space);
 }

@@ -1,8 +1,8 @@
 -- The digits of a number, one at a time from the last.
 use mathlib.Core.Path.{_≡_, refl, sym, ap, _∙_}
-use mathlib.Core.List.{[], _∷_, _++_}
-use Prim.Native.Nat.{ℕ, zero, suc, _+_, _/_, _%_, _≤_, _<_, max}
-use native.Mathlib.Nat.{mod-eq-of-lt, div-eq-of-lt}
+use mathlib.Core.List.{[], _∷_, _++_, append-assoc}
+use Prim.Native.Nat.{ℕ, zero, suc, _+_, _*_, _/_, _%_, _≤_, _<_, max}
+use native.Mathlib.Nat.{lt-of-lt-of-le, mul-assoc, mul-pos, mul-le-mul, mod-lt, mod-eq-of-lt, div-eq-of-lt, div-add-mod, div-div-eq-div-mul, mul-add-div, mul-add-mod-self-left}
 use native.Mathlib.Numerals.{add-one}
 use native.Mathlib.Decide.{decLt}
 use native.Mathlib.Omega.{arith}
@@ -14,6 +14,41 @@ pub length-digits : (b k n : ℕ) → length (digits b k n) ≡ k
 unfolding digits
 length-digits b zero n = refl
 length-digits b (suc k) n = simp (length-append, length-digits b k (n / b), add-one)
+
+pub digit-small : {b : ℕ} (n : ℕ) → (0 < b) × (b ≤ 16) → n % b < 16
+digit-small n h = lt-of-lt-of-le (mod-lt n (h .0)) (h .1)
+
+-- ---- two digits at once
+
+-- a base's square is a number to divide by
+pub square : {b : ℕ} → (0 < b) × (b ≤ 16) → (0 < b * b) × (b * b ≤ 256)
+square h = (mul-pos (h .0) (h .0), mul-le-mul (h .1) (h .1))
+
+-- what a division by it leaves, divided by the base
+module _ (b n : ℕ) (hb : 0 < b) where
+  abbrev pair : ℕ
+  pair = n % (b * b)
+
+  in-parts : b * (b * (n / (b * b))) + pair ≡ n
+  in-parts = rw (← mul-assoc) (div-add-mod n (b * b))
+
+  pair-mod : pair % b ≡ n % b
+  pair-mod = sym (mul-add-mod-self-left b (b * (n / (b * b))) pair) ∙ ap (λ (x : ℕ). x % b) in-parts
+
+  pair-div : pair / b % b ≡ n / b % b
+  pair-div =
+      sym (mul-add-mod-self-left b (n / (b * b)) (pair / b))
+      ∙ ap (λ (x : ℕ). x % b) (sym (mul-add-div hb (b * (n / (b * b))) pair) ∙ ap (λ (x : ℕ). x / b) in-parts)
+
+-- so the last two digits are those of what is left
+pub two-of : (b n : ℕ) → 0 < b → digits b 2 (n % (b * b)) ≡ digits b 2 n
+unfolding digits
+two-of b n hb = rw (pair-div b n hb, pair-mod b n hb) refl
+
+-- and stand after those before them
+pub two-more : (b k n : ℕ) → digits b k (n / (b * b)) ++ digits b 2 n ≡ digits b (suc (suc k)) n
+unfolding digits
+two-more b k n = simp (← div-div-eq-div-mul, append-assoc)
 
 decimal-digit : (d : ℕ) → d < 10 → digit d ≡ 48 + d
 unfolding digit
@@ -60,6 +95,18 @@ decimal-large n h = rw (places-large n h, decimal-digit (n % 10) (omega arith))
 
 pub longer : (n : ℕ) → 10 ≤ n → length (decimal n) ≡ length (decimal (n / 10)) + 1
 longer n h = ap length (decimal-large n h) ∙ length-append (decimal (n / 10)) ((48 + n % 10) ∷ [])
+
+pub longer-by-four : (n : ℕ) → 10000 ≤ n → length (decimal n) ≡ length (decimal (n / 10000)) + 4
+longer-by-four n h =
+    let e : n / 10 / 10 / 10 / 10 ≡ n / 10000 = omega arith in
+    rw (← e)
+    (omega (
+      arith,
+      longer n (omega arith),
+      longer (n / 10) (omega arith),
+      longer (n / 10 / 10) (omega arith),
+      longer (n / 10 / 10 / 10) (omega arith),
+    ))
 
 -- what holds of one digit, and of a number where of its tenth, holds of each number
 module _ (P : ℕ → Type 0) (small : (n : ℕ) → n < 10 → P n) (large : (n : ℕ) → 10 ≤ n → P (n / 10) → P n) where

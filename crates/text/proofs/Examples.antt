@@ -4,7 +4,7 @@ use mathlib.Core.Bool.{false}
 use mathlib.Core.List.{[]}
 use lib.IntN.{negsuc}
 use Rattle.text.specs.Ascii.{ascii}
-use Rattle.text.specs.Fields.{lineLength, startsWith, hasLine, lineValue, digitIn, areDigits, numberOf, isDecimal, numberIn, minus, plus, signedIn, bitsIn}
+use Rattle.text.specs.Fields.{lineLength, startsWith, hasLine, lineValue, digitIn, areDigits, numberSpelt, isDecimal, numberIn, minus, plus, signedIn, bitsIn}
 use Rattle.text.specs.declared.numbers.Number.the-variants.{Is, Malformed}
 use Rattle.text.specs.declared.numbers.Signed.the-variants as signed
 
@@ -21,5 +21,5 @@ readings : (lineValue (ascii "at=") (ascii "at=70\na") ≡ ascii "70")
     × (bitsIn (ascii "BD000000") ≡ Is 0xbd00_0000)
     × (bitsIn (ascii "bd000000") ≡ Malformed)
     × (bitsIn (ascii "BD00000") ≡ Malformed)
-unfolding lineLength startsWith hasLine lineValue digitIn areDigits numberOf isDecimal numberIn minus plus signedIn bitsIn
+unfolding lineLength startsWith hasLine lineValue digitIn areDigits numberSpelt isDecimal numberIn minus plus signedIn bitsIn
 readings = (refl, refl, refl, refl, refl, refl, refl, refl, refl, refl, refl, refl)

@@ -3,7 +3,7 @@ use mathlib.Core.Path.{_≡_, refl, sym, ap, _∙_}
 use mathlib.Core.Bool.{Bool, true, false, cond}
 use mathlib.Core.List.{List, [], _∷_, _++_, append-assoc, append-nil}
 use Prim.Native.Nat.{ℕ, zero, suc, _+_, _/_, _%_, _^_, _≤_, _<_}
-use native.Mathlib.Nat.{pow-suc, add-zero, add-assoc}
+use native.Mathlib.Nat.{pow-suc, one-le-pow, add-zero, add-assoc}
 use native.Mathlib.Numerals.{add-one}
 use native.Mathlib.Decide.{decLt}
 use native.Mathlib.Omega.{arith}
@@ -35,6 +35,12 @@ decimal-at-most zero n hk h = absurd (omega arith)
 decimal-at-most (suc zero) n hk h = rw (decimal-small n h) (omega arith)
 decimal-at-most (suc (suc k)) n hk h =
     shorter (suc k) n (decLt n 10) (decimal-at-most (suc k) (n / 10) (omega arith) (omega (arith, pow-suc 10 (suc k))))
+
+pub decimal-more : (k n : ℕ) → 10 ^ k ≤ n → k < length (decimal n)
+decimal-more zero n h = omega (arith, decimal-not-empty n)
+decimal-more (suc k) n h =
+    let p = pow-suc 10 k in
+    omega (arith, longer n (omega (arith, one-le-pow k 10 (omega arith))), decimal-more k (n / 10) (omega arith))
 
 -- "without leading zeros"
 pub decimal-no-leading-zero : (n : ℕ) → 1 ≤ n → 49 ≤ getD (decimal n) 0 0

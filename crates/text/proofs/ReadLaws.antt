@@ -6,12 +6,13 @@ use Prim.Native.Nat.{ℕ, suc, _+_, _/_, _%_, _^_, _≤_, _<_}
 use native.Mathlib.Decide.{decLt}
 use native.Mathlib.Omega.{arith}
 use lib.Dec.{leb, ltb, eqb}
-use lib.ListN.{length, getD, take, drop, length-append}
+use lib.ListN.{length, getD, take, drop, length-append, length-drop}
 use lib.Seq.{take-at, drop-at, drop-append-seam, length-take-le}
-use borrow.Author.Tests.{lt-ltb, le-ltb, le-leb, eq-eqb, ltb-true, leb-true, eqb-true}
+use borrow.Author.Tests.{lt-ltb, le-ltb, le-leb, eq-eqb, ne-eqb, ltb-true, leb-true, eqb-true}
 use Rattle.text.specs.Numbers.{digits, decimal, hexadecimal}
 use Rattle.text.specs.Lines.{line}
-use Rattle.text.specs.Fields.{lineLength, startsWith, hasLine, lineValue, isDecimal, areDigits, numberOf, numberIn, bitsIn, fieldIn, valueIn}
+use Rattle.text.specs.Fields.{lineLength, startsWith, longestLine, hasLine, LineRead, lineValue, isWord, isDecimal, areDigits, numberSpelt, numberIn, bitsIn, fieldIn, valueIn}
+use Rattle.text.specs.declared.fields.Line.{Line}
 use Rattle.text.specs.declared.numbers.Number.{Number}
 use Rattle.text.specs.declared.numbers.Number.the-variants.{Is, Malformed}
 use Rattle.text.proofs.Digits.{decimal-small, decimal-large, decimal-induction, decimal-is-digits}
@@ -26,13 +27,21 @@ starts-within [] text e = omega arith
 starts-within (k ∷ key) [] e = absurd (false≢true e)
 starts-within (k ∷ key) (b ∷ text) e = omega (arith, starts-within key text (both (eqb k b) (startsWith key text) e .1))
 
-module _ (key text : List ℕ) (there : hasLine key text ≡ true) where
-  parts : (ltb (lineLength text) (length text) && ltb (lineLength text) 64 ≡ true) × (startsWith key (take (lineLength text) text) ≡ true)
-  unfolding hasLine
-  parts = both (ltb (lineLength text) (length text) && ltb (lineLength text) 64) (startsWith key (take (lineLength text) text)) there
+-- a text shorter than the key does not
+pub starts-too-short : (key text : List ℕ) → length text < length key → startsWith key text ≡ false
+starts-too-short key text h = by-test (startsWith key text) refl
+  where
+    by-test : (b : Bool) → startsWith key text ≡ b → b ≡ false
+    by-test true e = absurd (omega (arith, starts-within key text e))
+    by-test false e = refl
 
-  lengths : (ltb (lineLength text) (length text) ≡ true) × (ltb (lineLength text) 64 ≡ true)
-  lengths = both (ltb (lineLength text) (length text)) (ltb (lineLength text) 64) (parts .0)
+module _ (key text : List ℕ) (there : hasLine key text ≡ true) where
+  parts : (ltb (lineLength text) (length text) && ltb (lineLength text) longestLine ≡ true) × (startsWith key (take (lineLength text) text) ≡ true)
+  unfolding hasLine
+  parts = both (ltb (lineLength text) (length text) && ltb (lineLength text) longestLine) (startsWith key (take (lineLength text) text)) there
+
+  lengths : (ltb (lineLength text) (length text) ≡ true) × (ltb (lineLength text) longestLine ≡ true)
+  lengths = both (ltb (lineLength text) (length text)) (ltb (lineLength text) longestLine) (parts .0)
 
   -- "a last line without newline is malformed": the newline is in the text
   pub line-within : suc (lineLength text) ≤ length text
@@ -40,29 +49,56 @@ module _ (key text : List ℕ) (there : hasLine key text ≡ true) where
 
   -- "each line at most 64 bytes with its newline"
   pub line-at-most : suc (lineLength text) ≤ 64
-  line-at-most = ltb-true (lineLength text) 64 (lengths .1)
+  line-at-most = ltb-true (lineLength text) longestLine (lengths .1)
 
   pub key-within : length key ≤ lineLength text
   key-within =
       omega (arith, starts-within key (take (lineLength text) text) (parts .1), length-take-le (lineLength text) text (omega (arith, line-within)))
 
+  -- the line is its key and its value
+  pub line-parts : lineLength text ≡ length key + length (lineValue key text)
+  unfolding lineValue
+  line-parts =
+      let whole : length (take (lineLength text) text) ≡ lineLength text = length-take-le (lineLength text) text (omega (arith, line-within)) in
+      rw there (omega (arith, key-within, length-drop (length key) (take (lineLength text) text)))
+
+-- a value that is not empty is that of a line that is there
+pub value-has : (key text : List ℕ) → 1 ≤ length (lineValue key text) → hasLine key text ≡ true
+unfolding lineValue
+value-has key text h = by-test (hasLine key text) h
+  where
+    by-test : (b : Bool) → 1 ≤ length (cond b (drop (length key) (take (lineLength text) text)) []) → b ≡ true
+    by-test true h = refl
+    by-test false h = absurd (omega arith)
+
+-- so its length tells where the line ends
+pub value-after : (key text : List ℕ) (at : ℕ) {value : List ℕ} → value ≡ lineValue key (drop at text) → 1 ≤ length value
+    → (at + (length key + length value + 1) ≡ at + suc (lineLength (drop at text))) × (at + suc (lineLength (drop at text)) ≤ length text)
+value-after key text at e h =
+    let there = value-has key (drop at text) (omega (arith, ap length e)) in
+    (omega (arith, line-parts key (drop at text) there, ap length e), omega (arith, line-within key (drop at text) there, length-drop at text))
+
+-- a value of another length is not the word
+pub other-length : (word value : List ℕ) → (length word ≡ length value → ⊥) → isWord word value ≡ false
+unfolding isWord
+other-length word value h = rw (ne-eqb (length word) (length value) h)
+
 -- where both lengths are right, the key decides
-pub key-decides : (key text : List ℕ) → lineLength text < length text → lineLength text < 64 → hasLine key text ≡ startsWith key (take (lineLength text) text)
+pub key-decides : (key text : List ℕ) → lineLength text < length text → lineLength text < longestLine → hasLine key text ≡ startsWith key (take (lineLength text) text)
 unfolding hasLine
-key-decides key text h g = rw (lt-ltb (lineLength text) (length text) h, lt-ltb (lineLength text) 64 g)
+key-decides key text h g = rw (lt-ltb (lineLength text) (length text) h, lt-ltb (lineLength text) longestLine g)
 
 pub no-line : (key text : List ℕ) → length text ≤ lineLength text → hasLine key text ≡ false
 unfolding hasLine
 no-line key text h = rw (le-ltb (lineLength text) (length text) h)
 
-pub line-too-long : (key text : List ℕ) → 64 ≤ lineLength text → hasLine key text ≡ false
+pub line-too-long : (key text : List ℕ) → longestLine ≤ lineLength text → hasLine key text ≡ false
 unfolding hasLine
-line-too-long key text h = rw (le-ltb (lineLength text) 64 h, and-false)
+line-too-long key text h = rw (le-ltb (lineLength text) longestLine h, and-false)
 
--- the place after a line that is there, of what `read_line` gives
-pub next-is : (key text : List ℕ) (at : ℕ) {next : ℕ} → hasLine key text ≡ true
-    → next ≡ cond (hasLine key text) (at + suc (lineLength text)) at → next ≡ at + suc (lineLength text)
-next-is key text at there e = rw there at e
+-- the place after a line that was found
+pub line-after : (key text : List ℕ) (at : ℕ) {r : Line} → LineRead key text at r → r .ok ≡ true → r .next ≡ at + suc (lineLength (drop at text))
+line-after key text at told e = rw (sym (told .ok) ∙ e) at (told .next)
 
 -- ---- a line that was put
 
@@ -98,11 +134,11 @@ module _ (key value rest : List ℕ) (k : lineLength key ≡ length key) (v : li
   before-newline : take (lineLength text) text ≡ key ++ value
   before-newline = rw (length-of-line, in-parts) (take-at (key ++ value) (10 ∷ rest) (length key + length value) (length-append key value))
 
-  pub line-there : length key + length value < 64 → hasLine key (line key value ++ rest) ≡ true
+  pub line-there : length key + length value < longestLine → hasLine key (line key value ++ rest) ≡ true
   line-there h =
       key-decides key text (rw (length-of-line, length-append, length-line) (omega arith)) (rw length-of-line h) ∙ rw before-newline (starts-itself key value)
 
-  pub value-there : length key + length value < 64 → lineValue key (line key value ++ rest) ≡ value
+  pub value-there : length key + length value < longestLine → lineValue key (line key value ++ rest) ≡ value
   unfolding lineValue
   value-there h = rw (line-there h, before-newline) (drop-append-seam key value)
 
@@ -131,13 +167,13 @@ first-not-zero n h e = by-size (decLt n 10)
     by-size (no l) = omega (arith, decimal-no-leading-zero n (omega arith))
 
 -- the digits of a number stand for it
-decimal-number : (n : ℕ) → numberOf 10 0 (decimal n) ≡ n
-unfolding numberOf
+decimal-number : (n : ℕ) → numberSpelt 10 0 (decimal n) ≡ n
+unfolding numberSpelt
 decimal-number =
-    decimal-induction (λ (n : ℕ). numberOf 10 0 (decimal n) ≡ n)
-    (λ n h. ap (numberOf 10 0) (decimal-small n h) ∙ omega (arith, digit-ten (48 + n) (omega arith) (omega arith)))
+    decimal-induction (λ (n : ℕ). numberSpelt 10 0 (decimal n) ≡ n)
+    (λ n h. ap (numberSpelt 10 0) (decimal-small n h) ∙ omega (arith, digit-ten (48 + n) (omega arith) (omega arith)))
     (λ n h p.
-    ap (numberOf 10 0) (decimal-large n h) ∙ number-last 10 0 (48 + n % 10) (decimal (n / 10))
+    ap (numberSpelt 10 0) (decimal-large n h) ∙ number-last 10 0 (48 + n % 10) (decimal (n / 10))
     ∙ omega (arith, p, digit-ten (48 + n % 10) (omega arith) (omega arith)))
 
 -- a number that is put is read, where the field can hold it
@@ -151,22 +187,22 @@ number-read most n h =
 pub number-put : (most : ℕ) (ds : List ℕ) (n : ℕ) → numberIn most ds ≡ Is n → (ds ≡ decimal n) × (n ≤ most)
 unfolding numberIn
 number-put most ds n e =
-    let c = chosen (isDecimal ds && leb (numberOf 10 0 ds) most) (numberOf 10 0 ds) n e in
-    let t = both (isDecimal ds) (leb (numberOf 10 0 ds) most) (c .0) in
-    (decimal-whole ds (t .0) ∙ ap decimal (c .1), rw (c .1) at (leb-true (numberOf 10 0 ds) most (t .1)))
+    let c = chosen (isDecimal ds && leb (numberSpelt 10 0 ds) most) (numberSpelt 10 0 ds) n e in
+    let t = both (isDecimal ds) (leb (numberSpelt 10 0 ds) most) (c .0) in
+    (decimal-whole ds (t .0) ∙ ap decimal (c .1), rw (c .1) at (leb-true (numberSpelt 10 0 ds) most (t .1)))
 
 -- the same of a float's bits
 pub bits-put : (ds : List ℕ) (n : ℕ) → bitsIn ds ≡ Is n → (ds ≡ hexadecimal 8 n) × (n < 2 ^ 32)
 unfolding bitsIn hexadecimal digits
 bits-put ds n e =
-    let c = chosen (eqb (length ds) 8 && areDigits 16 ds) (numberOf 16 0 ds) n e in
+    let c = chosen (eqb (length ds) 8 && areDigits 16 ds) (numberSpelt 16 0 ds) n e in
     let t = both (eqb (length ds) 8) (areDigits 16 ds) (c .0) in
     let l : length ds ≡ 8 = eqb-true (length ds) 8 (t .0) in
     (sym (hexadecimal-again 0 0 ds (t .1)) ∙ rw (l, c .1), rw (c .1) at (bits-below ds l (t .1)))
 
 -- ---- a line with a number
 
-pub field-read : (key rest : List ℕ) (most n : ℕ) → lineLength key ≡ length key → length key + length (decimal n) < 64 → n ≤ most
+pub field-read : (key rest : List ℕ) (most n : ℕ) → lineLength key ≡ length key → length key + length (decimal n) < longestLine → n ≤ most
     → fieldIn key most (line key (decimal n) ++ rest) ≡ Is n
 unfolding fieldIn
 field-read key rest most n k h g =

@@ -10,7 +10,7 @@ use lib.Dec.{leb, ltb, eqb}
 use lib.ListN.{length, getD}
 use borrow.Author.Tests.{lt-ltb, le-ltb, le-leb, lt-leb, eq-eqb, ne-eqb, ltb-true, eqb-false, not-true}
 use Rattle.text.specs.Numbers.{digit, digits, decimal}
-use Rattle.text.specs.Fields.{lineLength, digitIn, areDigits, numberOf, isDecimal, numberIn, bitsIn}
+use Rattle.text.specs.Fields.{lineLength, digitIn, areDigits, numberSpelt, isDecimal, numberIn, bitsIn}
 use Rattle.text.specs.declared.numbers.Number.{Number}
 use Rattle.text.specs.declared.numbers.Number.the-variants.{Is, Malformed}
 use Rattle.text.proofs.Digits.{decimal-small, decimal-large}
@@ -80,21 +80,21 @@ unfolding areDigits
 digits-last b d [] = and-true (ltb (digitIn d) b)
 digits-last b d (e ∷ ds) = rw (digits-last b d ds, and-assoc)
 
-pub number-last : (b a d : ℕ) (ds : List ℕ) → numberOf b a (ds ++ (d ∷ [])) ≡ numberOf b a ds * b + digitIn d
-unfolding numberOf
+pub number-last : (b a d : ℕ) (ds : List ℕ) → numberSpelt b a (ds ++ (d ∷ [])) ≡ numberSpelt b a ds * b + digitIn d
+unfolding numberSpelt
 number-last b a d [] = refl
 number-last b a d (e ∷ ds) = number-last b (a * b + digitIn e) d ds
 
 -- more digits make no number less
-at-least : (b a : ℕ) (ds : List ℕ) → 0 < b → a ≤ numberOf b a ds
-unfolding numberOf
+at-least : (b a : ℕ) (ds : List ℕ) → 0 < b → a ≤ numberSpelt b a ds
+unfolding numberSpelt
 at-least b a [] h = omega arith
 at-least b a (d ∷ ds) h =
     le-trans (le-mul-of-pos-right a h) (le-trans (omega arith) (at-least b (a * b + digitIn d) ds h))
 
 -- k digits make a number below the k-th power of the base
-below-power : (b a : ℕ) (ds : List ℕ) → areDigits b ds ≡ true → numberOf b a ds < suc a * b ^ length ds
-unfolding numberOf
+below-power : (b a : ℕ) (ds : List ℕ) → areDigits b ds ≡ true → numberSpelt b a ds < suc a * b ^ length ds
+unfolding numberSpelt
 below-power b a [] e = rw (pow-zero, mul-one) (omega arith)
 below-power b a (d ∷ ds) e =
     let t = digits-cons b d ds e in
@@ -104,19 +104,19 @@ below-power b a (d ∷ ds) e =
 
 -- what `read_digits` ensures, with digits before these that stand for a
 unfoldable pub withinIn : (base most a : ℕ) → List ℕ → Number
-withinIn base most a ds = cond (areDigits base ds && leb (numberOf base a ds) most) (Is (numberOf base a ds)) Malformed
+withinIn base most a ds = cond (areDigits base ds && leb (numberSpelt base a ds) most) (Is (numberSpelt base a ds)) Malformed
 
 module _ (b most a : ℕ) where
   pub within-end : a ≤ most → withinIn b most a [] ≡ Is a
-  unfolding withinIn areDigits numberOf
+  unfolding withinIn areDigits numberSpelt
   within-end h = rw (le-leb a most h)
 
   pub within-over : (ds : List ℕ) → 0 < b → most < a → withinIn b most a ds ≡ Malformed
   unfolding withinIn
-  within-over ds p h = rw (lt-leb (numberOf b a ds) most (omega (arith, at-least b a ds p)), and-false)
+  within-over ds p h = rw (lt-leb (numberSpelt b a ds) most (omega (arith, at-least b a ds p)), and-false)
 
   pub within-next : (d : ℕ) (ds : List ℕ) → digitIn d < b → withinIn b most a (d ∷ ds) ≡ withinIn b most (a * b + digitIn d) ds
-  unfolding withinIn areDigits numberOf
+  unfolding withinIn areDigits numberSpelt
   within-next d ds h = rw (lt-ltb (digitIn d) b h)
 
   pub within-none : (d : ℕ) (ds : List ℕ) → b ≤ digitIn d → withinIn b most a (d ∷ ds) ≡ Malformed
@@ -147,7 +147,7 @@ module _ (most : ℕ) where
   number-leading (d ∷ e ∷ ds) h z = rw (eq-eqb d 48 z)
 
 -- eight hexadecimal digits make a number below 2 ^ 32
-pub bits-below : (ds : List ℕ) → length ds ≡ 8 → areDigits 16 ds ≡ true → numberOf 16 0 ds < 2 ^ 32
+pub bits-below : (ds : List ℕ) → length ds ≡ 8 → areDigits 16 ds ≡ true → numberSpelt 16 0 ds < 2 ^ 32
 bits-below ds h e = rw h at (below-power 16 0 ds e)
 
 pub bits-within : (ds : List ℕ) → length ds ≡ 8 → withinIn 16 0xffff_ffff 0 ds ≡ bitsIn ds
@@ -155,8 +155,8 @@ unfolding withinIn bitsIn
 bits-within ds h = rw (eq-eqb (length ds) 8 h) (by-digits (areDigits 16 ds) refl)
   where
     by-digits : (t : Bool) → areDigits 16 ds ≡ t
-        → cond (t && leb (numberOf 16 0 ds) 0xffff_ffff) (Is (numberOf 16 0 ds)) Malformed ≡ cond t (Is (numberOf 16 0 ds)) Malformed
-    by-digits true e = rw (le-leb (numberOf 16 0 ds) 0xffff_ffff (omega (arith, bits-below ds h e)))
+        → cond (t && leb (numberSpelt 16 0 ds) 0xffff_ffff) (Is (numberSpelt 16 0 ds)) Malformed ≡ cond t (Is (numberSpelt 16 0 ds)) Malformed
+    by-digits true e = rw (le-leb (numberSpelt 16 0 ds) 0xffff_ffff (omega (arith, bits-below ds h e)))
     by-digits false e = refl
 
 -- ---- the digits of a number that is put, read again
@@ -178,8 +178,8 @@ digits-no-newline b (d ∷ ds) g e =
 
 -- ---- digits that are read, put again
 
-decimal-again : (a : ℕ) (ds : List ℕ) → 1 ≤ a → areDigits 10 ds ≡ true → decimal (numberOf 10 a ds) ≡ decimal a ++ ds
-unfolding numberOf
+decimal-again : (a : ℕ) (ds : List ℕ) → 1 ≤ a → areDigits 10 ds ≡ true → decimal (numberSpelt 10 a ds) ≡ decimal a ++ ds
+unfolding numberSpelt
 decimal-again a [] h e = sym (append-nil (decimal a))
 decimal-again a (d ∷ ds) h e =
     let t = digits-cons 10 d ds e in
@@ -191,8 +191,8 @@ decimal-again a (d ∷ ds) h e =
     ∙ ap (λ (l : List ℕ). l ++ ds) (rw (q, m) at (decimal-large n (omega arith)))
     ∙ append-assoc (decimal a) (d ∷ []) ds
 
-pub hexadecimal-again : (k a : ℕ) (ds : List ℕ) → areDigits 16 ds ≡ true → digits 16 (k + length ds) (numberOf 16 a ds) ≡ digits 16 k a ++ ds
-unfolding numberOf digits
+pub hexadecimal-again : (k a : ℕ) (ds : List ℕ) → areDigits 16 ds ≡ true → digits 16 (k + length ds) (numberSpelt 16 a ds) ≡ digits 16 k a ++ ds
+unfolding numberSpelt digits
 hexadecimal-again k a [] e = rw add-zero (sym (append-nil (digits 16 k a)))
 hexadecimal-again k a (d ∷ ds) e =
     let t = digits-cons 16 d ds e in
@@ -200,7 +200,7 @@ hexadecimal-again k a (d ∷ ds) e =
     let q : n / 16 ≡ a = omega arith in
     let m : n % 16 ≡ digitIn d = omega arith in
     let s : k + suc (length ds) ≡ suc k + length ds = omega arith in
-    ap (λ (j : ℕ). digits 16 j (numberOf 16 n ds)) s
+    ap (λ (j : ℕ). digits 16 j (numberSpelt 16 n ds)) s
     ∙ hexadecimal-again (suc k) n ds (t .1)
     ∙ rw (q, m, put-digit d (t .0)) (append-assoc (digits 16 k a) (d ∷ []) ds)
 
@@ -210,8 +210,8 @@ first-digit d h =
     let m : 48 + (0 + digitIn d) ≡ d = omega (arith, digit-ten d (r .0) (r .1)) in
     rw m at (decimal-small (0 + digitIn d) (omega arith))
 
-pub decimal-whole : (ds : List ℕ) → isDecimal ds ≡ true → ds ≡ decimal (numberOf 10 0 ds)
-unfolding isDecimal numberOf
+pub decimal-whole : (ds : List ℕ) → isDecimal ds ≡ true → ds ≡ decimal (numberSpelt 10 0 ds)
+unfolding isDecimal numberSpelt
 decimal-whole [] e = absurd (false≢true e)
 decimal-whole (d ∷ []) e = sym (first-digit d (digits-cons 10 d [] e .0))
 decimal-whole (d ∷ f ∷ ds) e =

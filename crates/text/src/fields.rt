@@ -2,10 +2,12 @@
 use crate::numbers::Number;
 use crate::numbers::read_number;
 ghost use mathlib.Core.Path.{_≡_};
-ghost use mathlib.Core.Bool.{cond};
-ghost use Prim.Native.Nat.{suc, _+_};
+ghost use Prim.Native.Nat.{_≤_, _<_};
 ghost use lib.ListN.{drop};
-ghost use Rattle.text.specs.Fields.{lineLength, startsWith, hasLine, lineValue, isNumber, valueIn, fieldIn};
+ghost use Rattle.text.specs.Fields.{lineLength, startsWith, longestLine, LineRead, lineValue, isWord, FieldRead};
+
+// The most bytes of a line, with its newline.
+const LONGEST_LINE: usize = 64;
 
 // Whether a line is there, and the place after it, or the place asked for where there is none.
 pub struct Line {
@@ -20,12 +22,15 @@ pub struct Field {
     pub next: usize,
 }
 
-// The bytes before the first newline.
+// The bytes before the first newline; no more of them are looked at than a line has.
 fn line_length(text: &[u8]) -> usize
-    ensures { λ r. ⌜ r ≡ lineLength (now (text .entry)) ⌝ }
+    ensures { λ r. ⌜ (r < longestLine → r ≡ lineLength (now (text .entry))) × (longestLine ≤ r → longestLine ≤ lineLength (now (text .entry))) ⌝ }
 {
     let mut i = 0;
-    while i < text.len() {
+    while i < LONGEST_LINE {
+        if i == text.len() {
+            return i;
+        }
         if text[i] == b'\n' {
             return i;
         }
@@ -34,7 +39,7 @@ fn line_length(text: &[u8]) -> usize
     i
 }
 
-fn starts_with(key: &[u8], text: &[u8]) -> bool
+pub fn starts_with(key: &[u8], text: &[u8]) -> bool
     ensures { λ r. ⌜ r ≡ startsWith (now (key .entry)) (now (text .entry)) ⌝ }
 {
     let mut i = 0;
@@ -50,10 +55,15 @@ fn starts_with(key: &[u8], text: &[u8]) -> bool
     true
 }
 
+pub fn is_word(word: &[u8], value: &[u8]) -> bool
+    ensures { λ r. ⌜ r ≡ isWord (now (word .entry)) (now (value .entry)) ⌝ }
+{
+    (word.len() == value.len()) & starts_with(word, value)
+}
+
 // The line at a place of a text, where it has that key.
 pub fn read_line(text: &[u8], at: usize, key: &[u8]) -> Line
-    ensures { λ r. ⌜ r .ok ≡ hasLine (now (key .entry)) (drop at (now (text .entry))) ⌝ }
-    ensures { λ r. ⌜ r .next ≡ cond (hasLine (now (key .entry)) (drop at (now (text .entry)))) (at + suc (lineLength (drop at (now (text .entry))))) at ⌝ }
+    ensures { λ r. ⌜ LineRead (now (key .entry)) (now (text .entry)) at r ⌝ }
 {
     let none = Line {
         ok: false,
@@ -64,11 +74,11 @@ pub fn read_line(text: &[u8], at: usize, key: &[u8]) -> Line
     }
     let rest = &text[at..];
     let length = line_length(rest);
-    // Without a newline the line is all of the rest.
-    if length >= rest.len() {
+    if length >= LONGEST_LINE {
         return none;
     }
-    if length >= 64 {
+    // Without a newline the line is all of the rest.
+    if length >= rest.len() {
         return none;
     }
     if starts_with(key, &rest[..length]) {
@@ -97,19 +107,15 @@ pub fn line_value<'a>(text: &'a [u8], at: usize, key: &[u8]) -> &'a [u8]
 
 // That line with a decimal number of at most `most`.
 pub fn read_field(text: &[u8], at: usize, key: &[u8], most: u64) -> Field
-    ensures { λ r. ⌜ r .ok ≡ isNumber (fieldIn (now (key .entry)) most (drop at (now (text .entry)))) ⌝ }
-    ensures { λ r. ⌜ r .value ≡ valueIn (fieldIn (now (key .entry)) most (drop at (now (text .entry)))) ⌝ }
-    ensures { λ r. ⌜ r .next ≡ cond (isNumber (fieldIn (now (key .entry)) most (drop at (now (text .entry))))) (at + suc (lineLength (drop at (now (text .entry))))) at ⌝ }
+    ensures { λ r. ⌜ FieldRead (now (key .entry)) most (now (text .entry)) at r ⌝ }
 {
-    let line = read_line(text, at, key);
-    if line.ok {
-        if let Number::Is(value) = read_number(line_value(text, at, key), most) {
-            return Field {
-                ok: true,
-                value,
-                next: line.next,
-            };
-        }
+    let digits = line_value(text, at, key);
+    if let Number::Is(value) = read_number(digits, most) {
+        return Field {
+            ok: true,
+            value,
+            next: at + (key.len() + digits.len() + 1),
+        };
     }
     Field {
         ok: false,

@@ -5,9 +5,11 @@ mod numbers;
 
 pub use fields::Field;
 pub use fields::Line;
+pub use fields::is_word;
 pub use fields::line_value;
 pub use fields::read_field;
 pub use fields::read_line;
+pub use fields::starts_with;
 pub use lines::put_bytes;
 pub use lines::put_decimal_line;
 pub use lines::put_hexadecimal_line;

@@ -7,7 +7,7 @@ ghost use lib.Ieee.{binary32, ofBits};
 ghost use lib.ListN.{length};
 ghost use Rattle.text.specs.Numbers.{digit as digitOf, digits, decimal};
 ghost use Rattle.text.specs.Lines.{written};
-ghost use Rattle.text.specs.Fields.{digitIn, areDigits, numberOf, numberIn, signedIn, bitsIn};
+ghost use Rattle.text.specs.Fields.{digitIn, areDigits, numberSpelt, numberIn, signedIn, bitsIn};
 ghost use Rattle.text.specs.declared.numbers.Number.the-variants.{Is, Malformed};
 
 pub enum Number {
@@ -20,17 +20,26 @@ pub enum Signed {
     Malformed,
 }
 
-// How many decimal digits n takes.
+// How many decimal digits n takes: four for each division, and those of what is left.
 pub fn decimal_length(n: u64) -> usize
     ensures { λ r. ⌜ r ≡ length (decimal n) ⌝ }
 {
     let mut count = 1;
     let mut rest = n;
-    while rest >= 10 {
-        rest /= 10;
-        count += 1;
+    while rest >= 10000 {
+        rest /= 10000;
+        count += 4;
     }
-    count
+    if rest < 10 {
+        return count;
+    }
+    if rest < 100 {
+        return count + 1;
+    }
+    if rest < 1000 {
+        return count + 2;
+    }
+    count + 3
 }
 
 // The ASCII code of a digit, in upper case.
@@ -45,18 +54,32 @@ fn digit(d: u64) -> u8
     }
 }
 
-// Puts the last `count` digits of n in a base, from the last to the first, as division gives them.
+// Puts the last two digits of n in a base.
+fn put_two(out: &mut [u8], at: usize, base: u64, n: u64)
+    requires { ⌜ (0 < base) × (base ≤ 16) ⌝ }
+    requires { ⌜ at + 2 ≤ length (now out) ⌝ }
+    ensures { λ _. ⌜ now (out .exit) ≡ written at (digits base 2 n) (now (out .entry)) ⌝ }
+{
+    out[at] = digit(n / base % base);
+    out[at + 1] = digit(n % base);
+}
+
+// Puts the last `count` digits of n in a base, from the last to the first: two for each division of n, and then the one that is left.
 pub(crate) fn put_digits(out: &mut [u8], at: usize, base: u64, count: usize, n: u64)
     requires { ⌜ (0 < base) × (base ≤ 16) ⌝ }
     requires { ⌜ at + count ≤ length (now out) ⌝ }
     ensures { λ _. ⌜ now (out .exit) ≡ written at (digits base count n) (now (out .entry)) ⌝ }
 {
+    let square = base * base;
     let mut left = count;
     let mut rest = n;
-    while left > 0 {
-        left -= 1;
-        out[at + left] = digit(rest % base);
-        rest /= base;
+    while left > 1 {
+        left -= 2;
+        put_two(out, at + left, base, rest % square);
+        rest /= square;
+    }
+    if left > 0 {
+        out[at] = digit(rest % base);
     }
 }
 
@@ -74,7 +97,7 @@ fn digit_in(byte: u8) -> u64
 // The number of digits of a base, where it is at most `most`. What has been read never passes it, so nothing overflows.
 fn read_digits(digits: &[u8], base: u64, most: u64) -> Number
     requires { ⌜ (0 < base) × (base ≤ 16) ⌝ }
-    ensures { λ r. ⌜ r ≡ cond (areDigits base (now (digits .entry)) && leb (numberOf base 0 (now (digits .entry))) most) (Is (numberOf base 0 (now (digits .entry)))) Malformed ⌝ }
+    ensures { λ r. ⌜ r ≡ cond (areDigits base (now (digits .entry)) && leb (numberSpelt base 0 (now (digits .entry))) most) (Is (numberSpelt base 0 (now (digits .entry)))) Malformed ⌝ }
 {
     let mut value: u64 = 0;
     let mut i = 0;

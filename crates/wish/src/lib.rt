@@ -89,11 +89,11 @@ fn rounded(y: f32) -> i64
     ensures { λ r. ⌜ r ≡ roundedTimes 1 y ⌝ }
 {
     let f = fraction_of(y);
-    let size = rounded_size(f.negative, f.digits, f.shift);
+    // Each sign by itself: joined, they take more instructions.
     if f.negative {
-        0 - (size as i64)
+        0 - (rounded_size(true, f.digits, f.shift) as i64)
     } else {
-        size as i64
+        rounded_size(false, f.digits, f.shift) as i64
     }
 }
 

@@ -1,47 +1,62 @@
 //! The functions and structs of `rondavitse.h`.
 
-pub use crate::lane::MOST_CARRIERS;
+pub const MOST_CARRIERS: usize = 64;
+pub const LONGEST_TEXT: usize = 2_248;
+pub const ANSWER_BUFFER: usize = 4_096;
+
+#[repr(C)]
+#[derive(Clone, Copy, Debug, Default, PartialEq, Eq)]
+pub struct Road {
+    pub surface: u64,
+    pub end: u64,
+    pub limit: u64,
+}
 
 #[repr(C)]
 #[derive(Clone, Copy, Debug, Default, PartialEq, Eq)]
 pub struct Carrier {
-    pub number: u16,
-    pub position: u32,
-    pub speed: u32,
+    pub number: u64,
+    pub position: u64,
+    pub speed: u64,
 }
 
+/// A carrier as it stands in the lane.
 #[repr(C)]
-#[derive(Clone, Copy, Debug)]
+#[derive(Clone, Copy, Debug, Default, PartialEq, Eq)]
+pub struct Record {
+    pub carrier: Carrier,
+    pub free: [u64; 5],
+}
+
+/// The first `count` records are the carriers, front to back.
+#[repr(C)]
+#[derive(Clone, Copy, Debug, PartialEq, Eq)]
 pub struct Lane {
-    pub started: bool,
-    pub surface: u32,
-    pub end: u32,
-    pub limit: u32,
+    /// 1; any other word counts as never started.
+    pub started: u64,
+    pub road: Road,
     pub cycle: u64,
-    pub count: usize,
-    pub carriers: [Carrier; MOST_CARRIERS],
+    pub count: u64,
+    pub free_figures: [u64; 2],
+    pub free_tables: [[[u64; 8]; 8]; 2],
+    pub free_slots: [u64; MOST_CARRIERS],
+    pub records: [Record; MOST_CARRIERS],
 }
 
 #[repr(C)]
-pub struct Changed {
-    pub no: u32,
-    pub lane: Lane,
-}
-
-#[repr(C)]
+#[derive(Clone, Copy, Debug, PartialEq, Eq)]
 pub struct Entered {
     pub no: u32,
     pub place: usize,
-    pub lane: Lane,
 }
 
 #[repr(C)]
+#[derive(Clone, Copy, Debug, PartialEq, Eq)]
 pub struct Cycled {
     pub no: u32,
     pub word: u64,
     pub replaced: u32,
     pub gone: u32,
-    pub lane: Lane,
 }
 
 /// Metres and m/s, both exact.
@@ -53,20 +68,22 @@ pub struct Reading {
 }
 
 #[repr(C)]
+#[derive(Clone, Copy, Debug, PartialEq)]
 pub struct ReadOut {
     pub no: u32,
     pub reading: Reading,
 }
 
 #[repr(C)]
+#[derive(Clone, Copy, Debug, PartialEq, Eq)]
 pub struct Listed {
     pub no: u32,
     pub length: usize,
 }
 
 #[repr(C)]
+#[derive(Clone, Copy, Debug, PartialEq, Eq)]
 pub struct Stepped {
-    pub lane: Lane,
     pub next: usize,
     pub written: usize,
     pub stop: bool,
@@ -77,25 +94,51 @@ pub const ACCELERATION: u8 = 1;
 pub const TARGET_SPEED: u8 = 2;
 pub const HOLD: u8 = 3;
 
-// The functions take any numbers and any lane: what must hold is only that
-// a pointer lends as many elements as the length beside it says.
+impl Lane {
+    /// All words 0: empty and never started.
+    pub const EMPTY: Lane = Lane {
+        started: 0,
+        road: Road {
+            surface: 0,
+            end: 0,
+            limit: 0,
+        },
+        cycle: 0,
+        count: 0,
+        free_figures: [0; 2],
+        free_tables: [[[0; 8]; 8]; 2],
+        free_slots: [0; MOST_CARRIERS],
+        records: [Record {
+            carrier: Carrier {
+                number: 0,
+                position: 0,
+                speed: 0,
+            },
+            free: [0; 5],
+        }; MOST_CARRIERS],
+    };
+}
+
+// The functions take any numbers and any lane: what must hold is only that a
+// pointer beside a length lends so many elements, and that what is written to
+// overlaps nothing else that is lent. For the lane its reference sees to that.
 extern "C" {
-    pub fn rondavitse_empty() -> Lane;
-    pub fn rondavitse_start(lane: Lane, surface: u32, end: u32, limit: u32, cycle: u64) -> Changed;
-    pub fn rondavitse_enter(lane: Lane, number: u16, position: u32, speed: u32) -> Entered;
-    pub fn rondavitse_leave(lane: Lane, number: u16) -> Changed;
+    pub fn rondavitse_empty(lane: &mut Lane);
+    pub fn rondavitse_start(lane: &mut Lane, road: Road, first: u64) -> u32;
+    pub fn rondavitse_enter(lane: &mut Lane, carrier: Carrier) -> Entered;
+    pub fn rondavitse_leave(lane: &mut Lane, number: u64) -> u32;
     pub fn rondavitse_cycle(
-        lane: Lane,
+        lane: &mut Lane,
         count: usize,
         sorts: *const u8,
         sorts_length: usize,
         values: *const u32,
         values_length: usize,
     ) -> Cycled;
-    pub fn rondavitse_read(lane: Lane, number: u16) -> ReadOut;
-    pub fn rondavitse_lane_text(lane: Lane, out: *mut u8, out_length: usize) -> Listed;
+    pub fn rondavitse_read(lane: &Lane, number: u64) -> ReadOut;
+    pub fn rondavitse_lane_text(lane: &Lane, out: *mut u8, out_length: usize) -> Listed;
     pub fn rondavitse_step(
-        lane: Lane,
+        lane: &mut Lane,
         input: *const u8,
         input_length: usize,
         at: usize,

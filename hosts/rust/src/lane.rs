@@ -3,11 +3,7 @@
 use crate::binding::{self, *};
 use crate::refusal::Refusal;
 
-pub use crate::binding::{Carrier, Reading};
-
-pub const MOST_CARRIERS: usize = 64;
-
-const LONGEST_TEXT: usize = 2_635;
+pub use crate::binding::{Carrier, Reading, Road, MOST_CARRIERS};
 
 /// What a carrier would like to do in the next cycle.
 #[derive(Clone, Copy, Debug, PartialEq)]
@@ -31,8 +27,8 @@ pub struct Cycled {
     pub gone: u32,
 }
 
-/// A lane that only the supervisor changes: each call hands in what the one
-/// before gave back, which is what the supervisor's promises are about.
+/// A lane that only the supervisor changes, in place: each call gets it as the
+/// one before has left it, which is what the supervisor's promises are about.
 pub struct Lane(binding::Lane);
 
 impl Wish {
@@ -56,32 +52,27 @@ impl Wish {
 
 impl Lane {
     /// An empty lane, just started.
-    pub fn started(surface: u32, end: u32, limit: u32, cycle: u64) -> Result<Lane, Refusal> {
-        let mut lane = Lane(unsafe { rondavitse_empty() });
-        lane.start(surface, end, limit, cycle)?;
+    pub fn started(road: Road, first: u64) -> Result<Lane, Refusal> {
+        let mut lane = Lane(binding::Lane::EMPTY);
+        lane.start(road, first)?;
         Ok(lane)
     }
 
-    /// Empties the lane and begins anew.
-    pub fn start(&mut self, surface: u32, end: u32, limit: u32, cycle: u64) -> Result<(), Refusal> {
-        let answer = unsafe { rondavitse_start(self.0, surface, end, limit, cycle) };
-        self.0 = answer.lane;
-        Refusal::check(answer.no)
+    /// Empties the lane and begins anew with the first cycle number.
+    pub fn start(&mut self, road: Road, first: u64) -> Result<(), Refusal> {
+        Refusal::check(unsafe { rondavitse_start(&mut self.0, road, first) })
     }
 
     /// Lets a carrier in and gives its place.
-    pub fn enter(&mut self, number: u16, position: u32, speed: u32) -> Result<usize, Refusal> {
-        let answer = unsafe { rondavitse_enter(self.0, number, position, speed) };
-        self.0 = answer.lane;
+    pub fn enter(&mut self, carrier: Carrier) -> Result<usize, Refusal> {
+        let answer = unsafe { rondavitse_enter(&mut self.0, carrier) };
         Refusal::check(answer.no)?;
         Ok(answer.place)
     }
 
     /// Takes a carrier out.
-    pub fn leave(&mut self, number: u16) -> Result<(), Refusal> {
-        let answer = unsafe { rondavitse_leave(self.0, number) };
-        self.0 = answer.lane;
-        Refusal::check(answer.no)
+    pub fn leave(&mut self, number: u64) -> Result<(), Refusal> {
+        Refusal::check(unsafe { rondavitse_leave(&mut self.0, number) })
     }
 
     /// One cycle, with a wish for each carrier from the front.
@@ -93,9 +84,8 @@ impl Lane {
             values[place] = wish.value();
         }
         let (s, v) = (sorts.as_ptr(), values.as_ptr());
-        let answer =
-            unsafe { rondavitse_cycle(self.0, wishes.len(), s, MOST_CARRIERS, v, MOST_CARRIERS) };
-        self.0 = answer.lane;
+        let (count, length) = (wishes.len(), MOST_CARRIERS);
+        let answer = unsafe { rondavitse_cycle(&mut self.0, count, s, length, v, length) };
         Refusal::check(answer.no)?;
         Ok(Cycled {
             word: answer.word,
@@ -105,8 +95,8 @@ impl Lane {
     }
 
     /// Where a carrier is and how fast.
-    pub fn read(&self, number: u16) -> Result<Reading, Refusal> {
-        let answer = unsafe { rondavitse_read(self.0, number) };
+    pub fn read(&self, number: u64) -> Result<Reading, Refusal> {
+        let answer = unsafe { rondavitse_read(&self.0, number) };
         Refusal::check(answer.no)?;
         Ok(answer.reading)
     }
@@ -114,14 +104,15 @@ impl Lane {
     /// The lane as lines of text.
     pub fn text(&self) -> Result<String, Refusal> {
         let mut text = vec![0; LONGEST_TEXT];
-        let answer = unsafe { rondavitse_lane_text(self.0, text.as_mut_ptr(), text.len()) };
+        let answer = unsafe { rondavitse_lane_text(&self.0, text.as_mut_ptr(), text.len()) };
         Refusal::check(answer.no)?;
         text.truncate(answer.length);
         Ok(String::from_utf8(text).expect("a lane text is ASCII"))
     }
 
     /// The carriers, front to back.
-    pub fn carriers(&self) -> &[Carrier] {
-        &self.0.carriers[..self.0.count]
+    pub fn carriers(&self) -> impl ExactSizeIterator<Item = Carrier> + '_ {
+        let records = &self.0.records[..self.0.count as usize];
+        records.iter().map(|record| record.carrier)
     }
 }

@@ -2,24 +2,25 @@
 //! road, an exit and an end that carriers run out at. It prints a summary that
 //! is the same in every run, and the same as that of the host in C.
 
-use rondavitse::lane::Carrier;
-use rondavitse::{Lane, Reading, Refusal, Wish};
+use rondavitse::{Carrier, Lane, Reading, Refusal, Road, Wish};
 use std::collections::BTreeMap;
 
 /// Positions count 1/2048 m, speeds 1/128 m/s.
-const METRE: u32 = 2048;
-const METRE_PER_SECOND: u32 = 128;
+const METRE: u64 = 2048;
+const METRE_PER_SECOND: u64 = 128;
 const CYCLES: u32 = 2_400;
-const DRY: u32 = 0;
-const LANE_END: u32 = 400 * METRE;
-const SPEED_LIMIT: u32 = 20 * METRE_PER_SECOND;
-const SIDE_ROAD: u32 = 120 * METRE;
+const ROAD: Road = Road {
+    surface: 0, // dry
+    end: 400 * METRE,
+    limit: 20 * METRE_PER_SECOND,
+};
+const SIDE_ROAD: u64 = 120 * METRE;
 /// In metres.
 const EXIT_POSITION: f64 = 300.0;
 
 struct Host {
     lane: Lane,
-    next_number: u16,
+    next_number: u64,
     admitted: u32,
     refused: BTreeMap<Refusal, u32>,
     replaced: u32,
@@ -34,7 +35,7 @@ struct Host {
 impl Host {
     fn started() -> Result<Host, Refusal> {
         Ok(Host {
-            lane: Lane::started(DRY, LANE_END, SPEED_LIMIT, 0)?,
+            lane: Lane::started(ROAD, 0)?,
             next_number: 1,
             admitted: 0,
             refused: BTreeMap::new(),
@@ -56,8 +57,13 @@ impl Host {
     }
 
     /// A carrier that is refused waits with its number for the next try.
-    fn try_entry(&mut self, position: u32, speed: u32) {
-        match self.lane.enter(self.next_number, position, speed) {
+    fn try_entry(&mut self, position: u64, speed: u64) {
+        let newcomer = Carrier {
+            number: self.next_number,
+            position,
+            speed,
+        };
+        match self.lane.enter(newcomer) {
             Ok(_) => {
                 self.next_number += 1;
                 self.admitted += 1;
@@ -67,9 +73,9 @@ impl Host {
     }
 
     fn drive(&mut self, cycle: u32) -> Result<(), Refusal> {
-        let carriers = self.lane.carriers().iter().enumerate();
+        let carriers = self.lane.carriers().enumerate();
         let wishes: Vec<Wish> = carriers
-            .map(|(place, &carrier)| wish_of(carrier, place, cycle))
+            .map(|(place, carrier)| wish_of(carrier, place, cycle))
             .collect();
         let cycled = self.lane.cycle(&wishes)?;
         self.replaced += cycled.replaced;
@@ -78,7 +84,7 @@ impl Host {
     }
 
     fn readings(&self) -> Result<Vec<Reading>, Refusal> {
-        let carriers = self.lane.carriers().iter();
+        let carriers = self.lane.carriers();
         carriers
             .map(|carrier| self.lane.read(carrier.number))
             .collect()
@@ -97,7 +103,8 @@ impl Host {
 
     /// Every fifth carrier takes the exit.
     fn let_carriers_out(&mut self) -> Result<(), Refusal> {
-        for Carrier { number, .. } in self.lane.carriers().to_vec() {
+        let numbers: Vec<u64> = self.lane.carriers().map(|carrier| carrier.number).collect();
+        for number in numbers {
             if number % 5 == 0 && self.lane.read(number)?.position >= EXIT_POSITION {
                 self.lane.leave(number)?;
                 self.left += 1;

@@ -10,6 +10,7 @@ mod notation;
 mod outcome;
 mod reference;
 mod steps;
+mod words;
 
 use crate::regressions;
 use crate::tally::Tally;
@@ -62,10 +63,10 @@ fn check_case(case: &Case, tally: &mut Tally) {
     }
 }
 
-/// The paper says of the empty lane only that it is not started and holds nobody.
+/// All words of the empty lane are 0, as the header says.
 fn check_empty(tally: &mut Tally) {
     let empty = host::empty();
-    if empty.started || empty.count != 0 {
+    if empty.iter().flatten().any(|&word| word != 0) {
         tally.differs(&format!("the empty lane is {empty:?}"), "none");
     }
 }

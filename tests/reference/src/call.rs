@@ -1,24 +1,21 @@
 //! Calls with their arguments, and what they answer.
 
+use crate::carrier::Carrier;
 use crate::lane::{Cycled, Reading, PLACES};
+use crate::road::Road;
 use crate::wish::Wish;
 
 /// A call on the lane.
 #[derive(Clone, Debug, PartialEq, Eq)]
 pub enum Call {
     Start {
-        surface: u32,
-        end: u32,
-        limit: u32,
-        cycle: u64,
+        road: Road,
+        /// The first cycle number.
+        first: u64,
     },
-    Enter {
-        number: u16,
-        position: u32,
-        speed: u32,
-    },
+    Enter(Carrier),
     Leave {
-        number: u16,
+        number: u64,
     },
     /// Only the first `count` wishes are looked at.
     Cycle {
@@ -26,7 +23,7 @@ pub enum Call {
         wishes: Box<[Wish; PLACES]>,
     },
     Read {
-        number: u16,
+        number: u64,
     },
     /// The lane text into a buffer of `room` bytes.
     LaneText {

@@ -3,31 +3,30 @@
 /// A carrier is a point: its front.
 #[derive(Clone, Copy, Debug, Default, PartialEq, Eq)]
 pub struct Carrier {
-    pub number: u16,
+    pub number: u64,
     /// In 1/2048 m from the lane's start.
-    pub position: u32,
+    pub position: u64,
     /// In 1/128 m/s.
-    pub speed: u32,
+    pub speed: u64,
 }
 
 impl Carrier {
-    /// The carrier after a whole cycle with `acceleration`, in 1/16 m/s².
+    /// The carrier after a whole cycle with `acceleration`, in 1/16 m/s²: the
+    /// position gains 2v + a, the old speed and the new one.
     ///
-    /// Panics if the speed would fall below 0 or the position leave 32 bits;
-    /// on a sound lane and with a trimmed wish neither happens.
+    /// A trimmed wish never takes the speed below 0.
     pub fn after(self, acceleration: i32) -> Carrier {
-        let (speed, acceleration) = (i64::from(self.speed), i64::from(acceleration));
-        let position = i64::from(self.position) + 2 * speed + acceleration;
+        let speed = self.speed.wrapping_add_signed(acceleration.into());
+        debug_assert!(u64::from(acceleration.unsigned_abs()) <= self.speed || acceleration > 0);
         Carrier {
             number: self.number,
-            position: u32::try_from(position).expect("a position within 32 bits"),
-            speed: u32::try_from(speed + acceleration).expect("a speed within 32 bits"),
+            position: self.position + self.speed + speed,
+            speed,
         }
     }
 
     /// The acceleration of one cycle of braking at `rate`: −(smaller of rate and speed).
     pub fn braking(self, rate: u32) -> i32 {
-        let braking = i32::try_from(rate.min(self.speed)).expect("a rate within 31 bits");
-        -braking
+        -(self.speed.min(rate.into()) as i32)
     }
 }

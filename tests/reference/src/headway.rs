@@ -4,14 +4,16 @@ use crate::carrier::Carrier;
 use crate::stopping::Stopping;
 use crate::surface::Row;
 
-/// Where a carrier that brakes at `rate` from now on comes to rest.
-fn rest<S: Stopping>(carrier: Carrier, rate: u32) -> u64 {
-    u64::from(carrier.position) + S::distance(rate, carrier.speed)
+/// Where a carrier that brakes at `rate` from now on comes to rest. It keeps
+/// a speed limit, so 32 bits hold its speed.
+pub fn rest<S: Stopping>(carrier: Carrier, rate: u32) -> u64 {
+    debug_assert!(carrier.speed <= u32::MAX.into());
+    carrier.position + S::distance(rate, carrier.speed as u32)
 }
 
 /// Whether the follower is behind the leader, and would also rest behind it
 /// if the leader braked its hardest and the follower only as guaranteed.
-pub fn safe_behind<S: Stopping>(row: Row, follower: Carrier, leader: Carrier) -> bool {
+pub fn safe_behind<S: Stopping>(row: &Row, follower: Carrier, leader: Carrier) -> bool {
     follower.position < leader.position
         && rest::<S>(follower, row.guaranteed_braking) < rest::<S>(leader, row.hardest_braking)
 }
@@ -19,7 +21,7 @@ pub fn safe_behind<S: Stopping>(row: Row, follower: Carrier, leader: Carrier) ->
 /// Whether the follower, once it has driven a cycle with `acceleration`, would
 /// still rest behind a leader that brakes its hardest from the cycle's start.
 pub fn rests_behind<S: Stopping>(
-    row: Row,
+    row: &Row,
     follower: Carrier,
     acceleration: i32,
     leader: Carrier,

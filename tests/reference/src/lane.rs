@@ -1,35 +1,26 @@
-//! The lane as a host hands it in, and the rules it must keep.
+//! The lane as a host hands it in.
 
 mod calls;
 mod listing;
 mod motion;
+mod rules;
 
 pub use crate::carrier::Carrier;
 pub use calls::Supervisor;
 pub use listing::LONGEST_LANE_TEXT;
+pub use rules::NUMBERS;
 
-use crate::headway::safe_behind;
-use crate::refusal::Refusal;
-use crate::stopping::{Fast, Stopping, Summed};
-use crate::surface::{self, Row};
-use std::ops::RangeInclusive;
+use crate::road::Road;
+use crate::stopping::{Fast, Summed};
 
 /// The most carriers a lane holds.
 pub const PLACES: usize = 64;
 
-/// Where a lane may end.
-pub const ENDS: RangeInclusive<u32> = 1..=1 << 31;
-
-/// The speed limits a lane may have.
-pub const LIMITS: RangeInclusive<u32> = 1..=8_192;
-
-/// A lane; any values may be handed in, and [`Lane::sound_row`] judges them.
+/// A lane; any words may be handed in, and [`Lane::sound_row`] judges them.
 #[derive(Clone, Copy, Debug, PartialEq, Eq)]
 pub struct Lane {
     pub started: bool,
-    pub surface: u32,
-    pub end: u32,
-    pub limit: u32,
+    pub road: Road,
     /// The cycle number.
     pub cycle: u64,
     /// How many of `carriers` are present, front to back; the rest is idle.
@@ -42,9 +33,7 @@ impl Default for Lane {
     fn default() -> Lane {
         Lane {
             started: false,
-            surface: 0,
-            end: 0,
-            limit: 0,
+            road: Road::default(),
             cycle: 0,
             count: 0,
             carriers: [Carrier::default(); PLACES],
@@ -52,7 +41,8 @@ impl Default for Lane {
     }
 }
 
-/// The lane with stopping distances in closed form, for long random runs.
+/// The lane with stopping distances in closed form, for long random runs and
+/// for measuring.
 #[derive(Clone, Copy, Debug, Default, PartialEq, Eq)]
 pub struct FastLane(pub Lane);
 
@@ -99,44 +89,13 @@ impl Supervisor for FastLane {
 impl Lane {
     /// The carriers present, front to back.
     pub fn present(&self) -> &[Carrier] {
-        let count = usize::try_from(self.count).unwrap_or(PLACES);
-        &self.carriers[..count.min(PLACES)]
+        &self.carriers[..self.count.min(PLACES as u64) as usize]
     }
 
     /// The place of the carrier with `number`, if it is present.
-    pub fn place_of(&self, number: u16) -> Option<usize> {
+    pub fn place_of(&self, number: u64) -> Option<usize> {
         self.present()
             .iter()
             .position(|carrier| carrier.number == number)
-    }
-
-    /// The surface row of a started lane that breaks no rule; else refusal 21.
-    pub fn sound_row<S: Stopping>(&self) -> Result<Row, Refusal> {
-        surface::row(self.surface)
-            .filter(|_| self.started && self.bounds_sound() && self.carriers_sound())
-            .filter(|&row| self.is_safe::<S>(row))
-            .ok_or(Refusal::LaneUnsound)
-    }
-
-    fn bounds_sound(&self) -> bool {
-        ENDS.contains(&self.end) && LIMITS.contains(&self.limit) && self.count <= PLACES as u64
-    }
-
-    fn carriers_sound(&self) -> bool {
-        let present = self.present();
-        present.iter().enumerate().all(|(place, carrier)| {
-            let ahead = &present[..place];
-            carrier.number != 0
-                && carrier.position < self.end
-                && carrier.speed <= self.limit
-                && ahead.iter().all(|other| other.number != carrier.number)
-        })
-    }
-
-    /// Each carrier is safe behind the next one ahead.
-    fn is_safe<S: Stopping>(&self, row: Row) -> bool {
-        self.present()
-            .windows(2)
-            .all(|pair| safe_behind::<S>(row, pair[1], pair[0]))
     }
 }

@@ -8,6 +8,7 @@ mod entries;
 mod histories;
 mod lanes;
 mod programs;
+mod wide;
 mod wishes;
 
 pub use breaks::{break_line, LineBreak, Part, TextBreak, LINE_BREAKS, TEXT_BREAKS};
@@ -17,6 +18,7 @@ pub use lanes::{empty_lane, sound_lane, unsound_lane};
 pub use programs::{
     call_text, garbled_program, longest_program, malformed_program, oversize_program, program,
 };
+pub use wide::widened;
 pub use wishes::FLOAT_EDGES;
 
 /// A SplitMix64 sequence.
@@ -76,9 +78,9 @@ impl Random {
     }
 
     /// A number from 1 to `most` of random width, so that small ones are common.
-    pub fn any_width(&mut self, most: u32) -> u32 {
+    pub fn any_width(&mut self, most: u64) -> u64 {
         let width = self.below(32);
         let number = self.bits() & ((2 << width) - 1);
-        (number as u32).clamp(1, most)
+        number.clamp(1, most)
     }
 }

@@ -6,13 +6,18 @@ pub enum Refusal {
     SurfaceUnknown = 1,
     EndOutOfRange = 2,
     LimitOutOfRange = 3,
-    NumberZero = 4,
+    NumberOutOfRange = 4,
     PositionPastEnd = 5,
     SpeedAboveLimit = 6,
     FloatOutOfRange = 7,
     TextMalformed = 8,
     BufferTooShort = 9,
     InputTooLong = 10,
+    /// Of wishes given as numbers alone: a sort that does not exist, or units
+    /// that 16 bits do not hold.
+    WishUnknown = 11,
+    /// Of wishes given as numbers alone: fewer of them than the count.
+    WishesTooFew = 12,
     LaneUnsound = 21,
     LaneFull = 22,
     NumberPresent = 23,

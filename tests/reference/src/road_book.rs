@@ -12,6 +12,7 @@ pub use drive::Drive;
 use crate::call::Call;
 use crate::carrier::Carrier;
 use crate::lane::{Lane, PLACES};
+use crate::road::Road;
 use crate::surface::{self, Row};
 use crate::wish::Wish;
 
@@ -21,9 +22,7 @@ pub type Breach = String;
 /// Surface, end, limit and the carriers front to back.
 #[derive(Clone, Debug, PartialEq, Eq)]
 pub struct RoadBook {
-    pub surface: u32,
-    pub end: u32,
-    pub limit: u32,
+    pub road: Road,
     pub carriers: Vec<Carrier>,
 }
 
@@ -31,9 +30,7 @@ impl RoadBook {
     /// The book of a history that begins with `first`, a lane without carriers.
     pub fn new(first: &Lane) -> RoadBook {
         RoadBook {
-            surface: first.surface,
-            end: first.end,
-            limit: first.limit,
+            road: first.road,
             carriers: Vec::new(),
         }
     }
@@ -45,33 +42,17 @@ impl RoadBook {
             return Ok(());
         }
         match *call {
-            Call::Start {
-                surface,
-                end,
-                limit,
-                ..
-            } => {
-                *self = RoadBook {
-                    surface,
-                    end,
-                    limit,
-                    carriers: Vec::new(),
-                }
+            Call::Start { road, .. } => {
+                self.road = road;
+                self.carriers.clear();
             }
-            Call::Enter {
-                number,
-                position,
-                speed,
-            } => self.enter(Carrier {
-                number,
-                position,
-                speed,
-            }),
+            Call::Enter(newcomer) => self.enter(newcomer),
             Call::Leave { number } => self.carriers.retain(|carrier| carrier.number != number),
             Call::Cycle { ref wishes, .. } => {
                 let drives = self.drives(wishes, word)?;
                 self.carriers = drives.iter().map(Drive::end).collect();
-                self.carriers.retain(|carrier| carrier.position < self.end);
+                let end = self.road.end;
+                self.carriers.retain(|carrier| carrier.position < end);
             }
             Call::Read { .. } | Call::LaneText { .. } => (),
         }
@@ -101,14 +82,15 @@ impl RoadBook {
         let pairs = self.carriers.iter().zip(wishes);
         pairs
             .map(|(&carrier, wish)| {
-                wish.trimmed(row, self.limit, carrier)
+                wish.trimmed(row, self.road.limit, carrier)
                     .ok_or_else(|| format!("a cycle ran on {wish:08X?}"))
             })
             .collect()
     }
 
-    fn row(&self) -> Result<Row, Breach> {
-        surface::row(self.surface).ok_or_else(|| format!("a cycle ran on surface {}", self.surface))
+    fn row(&self) -> Result<&'static Row, Breach> {
+        let surface = self.road.surface;
+        surface::row(surface).ok_or_else(|| format!("a cycle ran on surface {surface}"))
     }
 
     /// The walk goes front to back to the first carrier with a lower position.

@@ -16,13 +16,12 @@ pub fn distance(rate: u32, speed: u32) -> u64 {
     gained
 }
 
-/// S(c, v) in closed form, q²c + 2qr + r with v = qc + r.
+/// S(c, v) in closed form: q²c + 2qr + r with v = qc + r, which is q(v + r) + r.
 ///
-/// Only for long random runs; the tests hold it equal to [`distance`].
+/// The tests hold it equal to [`distance`].
 pub fn fast(rate: u32, speed: u32) -> u64 {
-    let (rate, speed) = (u64::from(rate), u64::from(speed));
-    let (q, r) = (speed / rate, speed % rate);
-    q * q * rate + 2 * q * r + r
+    let (q, r) = (u64::from(speed / rate), u64::from(speed % rate));
+    q * (u64::from(speed) + r) + r
 }
 
 /// A way to reckon stopping distances.

@@ -32,6 +32,6 @@ pub const HOUSE_ROWS: [Row; 8] = [
 ];
 
 /// The row of a surface code, if there is one.
-pub fn row(surface: u32) -> Option<Row> {
-    HOUSE_ROWS.get(usize::try_from(surface).ok()?).copied()
+pub fn row(surface: u64) -> Option<&'static Row> {
+    HOUSE_ROWS.get(usize::try_from(surface).ok()?)
 }

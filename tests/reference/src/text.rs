@@ -1,8 +1,10 @@
 //! Call texts: blocks of `key=value` lines in fixed order.
 
 use crate::call::Call;
+use crate::carrier::Carrier;
 use crate::lane::{LONGEST_LANE_TEXT, PLACES};
 use crate::refusal::Refusal;
+use crate::road::Road;
 use crate::wish::Wish;
 
 /// The most bytes of a line, with its newline.
@@ -28,18 +30,12 @@ pub fn block(text: &[u8]) -> Result<(Call, &[u8]), Refusal> {
     let mut lines = Lines { rest: text };
     let call = match lines.value("call")? {
         b"start" => Call::Start {
-            surface: lines.number("surface")?,
-            end: lines.number("end")?,
-            limit: lines.number("limit")?,
-            cycle: lines.number("cycle")?,
+            road: lines.road()?,
+            first: lines.number::<u64>("cycle")?,
         },
-        b"enter" => Call::Enter {
-            number: lines.number("car")?,
-            position: lines.number("at")?,
-            speed: lines.number("speed")?,
-        },
+        b"enter" => Call::Enter(lines.carrier()?),
         b"leave" => Call::Leave {
-            number: lines.number("car")?,
+            number: lines.number::<u16>("car")?,
         },
         b"cycle" => lines.cycle()?,
         b"show" => Call::LaneText {
@@ -62,15 +58,31 @@ impl<'a> Lines<'a> {
         Ok(value)
     }
 
-    /// A number that the field's type can hold.
-    fn number<T: TryFrom<u64>>(&mut self, key: &str) -> Result<T, Refusal> {
+    /// A number that a field of the width of `T` can hold.
+    fn number<T: TryFrom<u64>>(&mut self, key: &str) -> Result<u64, Refusal> {
         decimal(self.value(key)?)
-            .and_then(|number| T::try_from(number).ok())
+            .filter(|&number| T::try_from(number).is_ok())
             .ok_or(Refusal::TextMalformed)
     }
 
+    fn road(&mut self) -> Result<Road, Refusal> {
+        Ok(Road {
+            surface: self.number::<u32>("surface")?,
+            end: self.number::<u32>("end")?,
+            limit: self.number::<u32>("limit")?,
+        })
+    }
+
+    fn carrier(&mut self) -> Result<Carrier, Refusal> {
+        Ok(Carrier {
+            number: self.number::<u16>("car")?,
+            position: self.number::<u32>("at")?,
+            speed: self.number::<u32>("speed")?,
+        })
+    }
+
     fn cycle(&mut self) -> Result<Call, Refusal> {
-        let count = self.number("cars")?;
+        let count = self.number::<u64>("cars")?;
         Refusal::TextMalformed.when(count > PLACES as u64)?;
         let mut wishes = Box::new([Wish::Hold; PLACES]);
         for wanted in wishes.iter_mut().take(count as usize) {

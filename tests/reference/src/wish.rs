@@ -25,6 +25,27 @@ const SIXTEEN: u32 = 0x4180_0000;
 const SIXTY_FOUR: u32 = 0x4280_0000;
 
 impl Wish {
+    /// What a host's sort and value mean; nothing where they are no wish.
+    pub fn of_numbers(sort: u8, value: u32) -> Option<Wish> {
+        match sort {
+            0 => i16::try_from(value as i32).ok().map(Wish::Units),
+            1 => Some(Wish::Acceleration(value)),
+            2 => Some(Wish::TargetSpeed(value)),
+            3 => Some(Wish::Hold),
+            _ => None,
+        }
+    }
+
+    /// The sort and the value of a wish; of a hold the value is `any`.
+    pub fn in_numbers(self, any: u32) -> (u8, u32) {
+        match self {
+            Wish::Units(units) => (0, i32::from(units) as u32),
+            Wish::Acceleration(bits) => (1, bits),
+            Wish::TargetSpeed(bits) => (2, bits),
+            Wish::Hold => (3, any),
+        }
+    }
+
     /// Whether a float lies in its range. Bits without the sign grow with the
     /// float's magnitude, infinities and not-a-number above all finite ones.
     pub fn in_range(self) -> bool {
@@ -37,30 +58,29 @@ impl Wish {
 
     /// The wish in units, not yet trimmed, for a carrier at `speed`; nothing
     /// for a float outside its range.
-    pub fn units(self, speed: u32) -> Option<i64> {
+    pub fn units(self, speed: u64) -> Option<i64> {
         self.in_range().then(|| match self {
-            Wish::Units(units) => i64::from(units),
-            Wish::Acceleration(bits) => floor_scaled(bits, 4),
+            Wish::Units(units) => units.into(),
+            Wish::Acceleration(bits) => floor_scaled(bits, 4).into(),
             // The speed is whole, so it may be taken off after rounding down.
-            Wish::TargetSpeed(bits) => floor_scaled(bits, 7) - i64::from(speed),
+            Wish::TargetSpeed(bits) => i64::from(floor_scaled(bits, 7)) - speed as i64,
             Wish::Hold => 0,
         })
     }
 
     /// The wish in units, trimmed to what surface and limit allow `carrier`.
-    pub fn trimmed(self, row: Row, limit: u32, carrier: Carrier) -> Option<i32> {
+    pub fn trimmed(self, row: &Row, limit: u64, carrier: Carrier) -> Option<i32> {
         let lowest = i64::from(carrier.braking(row.hardest_braking));
-        let to_limit = i64::from(limit) - i64::from(carrier.speed);
-        let highest = to_limit.min(i64::from(row.most_acceleration));
-        let units = self.units(carrier.speed)?.max(lowest).min(highest);
-        i32::try_from(units).ok()
+        let to_limit = limit as i64 - carrier.speed as i64;
+        let highest = to_limit.min(row.most_acceleration.into());
+        Some(self.units(carrier.speed)?.max(lowest).min(highest) as i32)
     }
 }
 
 /// Rounds 2^`power` times a float in range down to a whole number.
-fn floor_scaled(bits: u32, power: i32) -> i64 {
-    let fraction = i128::from(bits & 0x007F_FFFF);
-    let exponent = (bits >> 23 & 0xFF) as i32;
+fn floor_scaled(bits: u32, power: u32) -> i32 {
+    let fraction = (bits & 0x007F_FFFF) as i32;
+    let exponent = bits >> 23 & 0xFF;
     // Subnormals have no hidden bit and the exponent of the least normals.
     let significand = if exponent == 0 {
         fraction
@@ -72,12 +92,7 @@ fn floor_scaled(bits: u32, power: i32) -> i64 {
     } else {
         -significand
     };
-    let shift = exponent.max(1) - 150 + power;
-    let floor = if shift >= 0 {
-        signed << shift
-    } else {
-        // A right shift of a signed number rounds down.
-        signed >> shift.unsigned_abs().min(127)
-    };
-    i64::try_from(floor).expect("a float in range is far below 2^63")
+    // The float is `signed` over 2^(150 - exponent), and in either range that
+    // exponent is below 134. A right shift of a signed number rounds down.
+    signed >> (150 - power - exponent.max(1)).min(31)
 }

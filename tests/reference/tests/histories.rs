@@ -3,10 +3,12 @@
 mod common;
 
 use common::{carrier, example_lane, wishes};
-use lane_reference::random::{call, history, sound_lane, unsound_lane, History, Random, EVEN};
+use lane_reference::random::{
+    call, history, sound_lane, unsound_lane, widened, History, Random, EVEN,
+};
 use lane_reference::road_book::{check_history, Checker, Drive};
 use lane_reference::stopping::{Fast, Summed};
-use lane_reference::{Answer, Call, Carrier, FastLane, Lane, Refusal, Supervisor, Wish};
+use lane_reference::{Answer, Call, FastLane, Lane, Refusal, Supervisor, Wish};
 use std::collections::BTreeSet;
 
 #[test]
@@ -85,18 +87,56 @@ fn lanes_handed_in_are_judged() {
     }
 }
 
+/// No text can hold such arguments, and no call accepts them.
+#[test]
+fn arguments_above_their_width_are_refused() {
+    let mut random = Random::new(8);
+    for _ in 0..5_000 {
+        let lane = sound_lane(&mut random);
+        let next = call(&mut random, &lane, &EVEN);
+        let wide = widened(&mut random, &next);
+        let mut after = FastLane(lane);
+        let answer = after.call(&wide);
+        let numbers: &[u32] = match wide {
+            Call::Start { .. } => &[1, 2, 3],
+            Call::Enter { .. } => &[4, 5, 6],
+            Call::Leave { .. } | Call::Read { .. } => &[4],
+            Call::Cycle { .. } | Call::LaneText { .. } => continue,
+        };
+        let number = answer.expect_err("a refusal").number();
+        assert!(numbers.contains(&number), "{wide:?} gives {number}");
+        assert_eq!(after.0, lane, "{wide:?}");
+    }
+}
+
+#[test]
+fn wishes_as_numbers_are_the_same_wishes() {
+    let mut random = Random::new(9);
+    for _ in 0..3_000 {
+        let lane = sound_lane(&mut random);
+        let next = call(&mut random, &lane, &[0, 0, 1, 0, 0, 0, 0]);
+        let Call::Cycle { count, wishes } = &next else {
+            unreachable!("cycles alone are asked for")
+        };
+        let (sorts, values): (Vec<u8>, Vec<u32>) = wishes
+            .iter()
+            .map(|wish| wish.in_numbers(random.bits() as u32))
+            .unzip();
+        let (mut plain, mut given) = (FastLane(lane), FastLane(lane));
+        let answer = given.cycle_given(*count, &sorts, &values);
+        assert_eq!(plain.cycle(*count, wishes), answer, "{next:?}");
+        assert_eq!(plain, given, "{next:?}");
+    }
+}
+
 /// The example's cycle as an implementation might answer it.
 fn observed(word: u64, after: &Lane) -> Result<(), String> {
     let first = common::lane(0, 10_000, 1_000, &[]);
     let mut checker = Checker::new(&first);
     let mut lane = first;
-    for (number, position, speed) in [(7, 1_000, 0), (8, 700, 64)] {
-        lane.enter(number, position, speed).expect("room");
-        let entry = Call::Enter {
-            number,
-            position,
-            speed,
-        };
+    for newcomer in [carrier(7, 1_000, 0), carrier(8, 700, 64)] {
+        lane.enter(newcomer).expect("room");
+        let entry = Call::Enter(newcomer);
         checker.observe::<Summed>(&entry, false, 0, lane.present())?;
     }
     assert_eq!(lane, example_lane(1_000));
@@ -140,16 +180,11 @@ fn the_checker_sees_a_touch_between_cycle_ends() {
     let first = common::lane(0, 10_000, 1_000, &[]);
     let mut checker = Checker::new(&first);
     let mut before = vec![carrier(1, 10, 0)];
-    let entry = |carrier: Carrier| Call::Enter {
-        number: carrier.number,
-        position: carrier.position,
-        speed: carrier.speed,
-    };
-    let seen = checker.observe::<Summed>(&entry(before[0]), false, 0, &before);
+    let seen = checker.observe::<Summed>(&Call::Enter(before[0]), false, 0, &before);
     assert_eq!(seen, Ok(()));
     // Not safe, but an implementation might let it in.
     before.push(carrier(2, 5, 32));
-    let seen = checker.observe::<Summed>(&entry(before[1]), false, 0, &before);
+    let seen = checker.observe::<Summed>(&Call::Enter(before[1]), false, 0, &before);
     assert_eq!(seen, Ok(()));
 
     let after = [carrier(1, 42, 32), carrier(2, 37, 0)];

@@ -3,15 +3,15 @@
 
 mod common;
 
-use common::{carrier, example_lane, full_lane, lane, wishes};
+use common::{carrier, example_lane, full_lane, lane, road, wishes};
 use lane_reference::{Cycled, Lane, Refusal, Supervisor, Wish};
 
 #[test]
 fn any_lane_may_be_started() {
     let mut broken = full_lane();
     broken.count = u64::MAX;
-    broken.surface = 99;
-    assert_eq!(broken.start(0, 1, 1, u64::MAX), Ok(()));
+    broken.road.surface = 99;
+    assert_eq!(broken.start(road(0, 1, 1), u64::MAX), Ok(()));
     assert_eq!((broken.count, broken.cycle), (0, u64::MAX));
     // The last cycle number is accepted, but no cycle after it.
     assert_eq!(broken.cycle(0, &wishes(&[])), Err(Refusal::CyclesExhausted));
@@ -20,10 +20,10 @@ fn any_lane_may_be_started() {
 #[test]
 fn a_refused_start_changes_nothing() {
     let mut never = Lane::default();
-    assert!(never.start(8, 1, 1, 0).is_err());
+    assert!(never.start(road(8, 1, 1), 0).is_err());
     assert_eq!(never, Lane::default());
     let mut running = example_lane(1_000);
-    assert!(running.start(0, 0, 1, 0).is_err());
+    assert!(running.start(road(0, 0, 1), 0).is_err());
     assert!(running.read(7).is_ok());
 }
 
@@ -32,7 +32,7 @@ fn an_entry_level_with_a_carrier_is_25() {
     let mut lane = lane(0, 10_000, 1_000, &[(7, 1_000, 0)]);
     for speed in [0, 1, 1_000] {
         assert_eq!(
-            lane.enter(8, 1_000, speed),
+            lane.enter(carrier(8, 1_000, speed)),
             Err(Refusal::UnsafeBehindLeader)
         );
     }
@@ -41,10 +41,13 @@ fn an_entry_level_with_a_carrier_is_25() {
 #[test]
 fn the_order_of_checks_decides() {
     let mut full = full_lane();
-    assert_eq!(full.enter(1, 9_000, 0), Err(Refusal::LaneFull));
+    assert_eq!(full.enter(carrier(1, 9_000, 0)), Err(Refusal::LaneFull));
     // Between these two there is no room at either side.
     let mut pair = lane(0, 10_000, 1_000, &[(7, 1_000, 0), (8, 839, 96)]);
-    assert_eq!(pair.enter(9, 999, 96), Err(Refusal::UnsafeBehindLeader));
+    assert_eq!(
+        pair.enter(carrier(9, 999, 96)),
+        Err(Refusal::UnsafeBehindLeader)
+    );
 }
 
 #[test]
@@ -79,7 +82,7 @@ fn a_full_lane_drives_and_its_places_serve_again() {
         Ok(1 << 63)
     );
     assert_eq!(lane.leave(1), Ok(()));
-    assert_eq!(lane.enter(100, 9_999, 0), Ok(0));
+    assert_eq!(lane.enter(carrier(100, 9_999, 0)), Ok(0));
     assert_eq!(lane.count, 64);
 }
 

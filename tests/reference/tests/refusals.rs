@@ -2,7 +2,7 @@
 
 mod common;
 
-use common::{carrier, example_lane, full_lane, lane, wishes};
+use common::{carrier, example_lane, full_lane, lane, road, wishes};
 use lane_reference::{Answer, Call, Lane, Refusal, Supervisor, Wish};
 
 const NAN: Wish = Wish::Acceleration(0x7FC00000);
@@ -15,22 +15,15 @@ fn refused(lane: &Lane, number: u32, call: Call) {
     assert_eq!(after, *lane, "{call:?} changed the lane");
 }
 
-fn start(surface: u32, end: u32, limit: u32) -> Call {
-    let cycle = 5;
+fn start(surface: u64, end: u64, limit: u64) -> Call {
     Call::Start {
-        surface,
-        end,
-        limit,
-        cycle,
+        road: road(surface, end, limit),
+        first: 5,
     }
 }
 
-fn enter(number: u16, position: u32, speed: u32) -> Call {
-    Call::Enter {
-        number,
-        position,
-        speed,
-    }
+fn enter(number: u64, position: u64, speed: u64) -> Call {
+    Call::Enter(carrier(number, position, speed))
 }
 
 fn cycle(count: u64, first: &[Wish]) -> Call {
@@ -44,11 +37,14 @@ fn cycle(count: u64, first: &[Wish]) -> Call {
 fn start_refuses_1_2_3_in_order() {
     for lane in [Lane::default(), example_lane(1_000)] {
         refused(&lane, 1, start(8, 0, 0));
-        refused(&lane, 1, start(u32::MAX, 1, 1));
+        refused(&lane, 1, start(u64::MAX, 1, 1));
+        refused(&lane, 1, start(1 << 32, 1, 1));
         refused(&lane, 2, start(7, 0, 0));
         refused(&lane, 2, start(0, (1 << 31) + 1, 8_193));
+        refused(&lane, 2, start(0, (1 << 32) + 1, 8_193));
         refused(&lane, 3, start(0, 1 << 31, 0));
         refused(&lane, 3, start(7, 1, 8_193));
+        refused(&lane, 3, start(7, 1, (1 << 32) + 1));
     }
 }
 
@@ -58,10 +54,7 @@ fn start_accepts_the_ends_of_its_ranges() {
         let mut lane = example_lane(1_000);
         assert_eq!(lane.call(&start(surface, end, limit)), Ok(Answer::Started));
         assert!(lane.started && lane.present().is_empty());
-        assert_eq!(
-            (lane.surface, lane.end, lane.limit, lane.cycle),
-            (surface, end, limit, 5)
-        );
+        assert_eq!((lane.road, lane.cycle), (road(surface, end, limit), 5));
     }
 }
 
@@ -85,20 +78,28 @@ fn changed(change: impl Fn(&mut Lane)) -> Lane {
 fn a_lane_that_breaks_a_rule_is_21() {
     let broken = [
         changed(|lane| lane.started = false),
-        changed(|lane| lane.surface = 8),
-        changed(|lane| lane.end = 0),
-        changed(|lane| lane.end = (1 << 31) + 1),
-        changed(|lane| lane.end = 1_000),
-        changed(|lane| lane.limit = 0),
-        changed(|lane| lane.limit = 8_193),
-        changed(|lane| lane.limit = 63),
+        changed(|lane| lane.road.surface = 8),
+        changed(|lane| lane.road.end = 0),
+        changed(|lane| lane.road.end = (1 << 31) + 1),
+        changed(|lane| lane.road.end = 1_000),
+        changed(|lane| lane.road.limit = 0),
+        changed(|lane| lane.road.limit = 8_193),
+        changed(|lane| lane.road.limit = 63),
         changed(|lane| lane.count = 65),
         changed(|lane| lane.count = u64::MAX),
+        changed(|lane| lane.count = 2 + (1 << 32)),
+        changed(|lane| lane.road.surface = 1 << 32),
+        changed(|lane| lane.road.end = 10_000 + (1 << 32)),
+        changed(|lane| lane.road.limit = 1_000 + (1 << 32)),
         changed(|lane| lane.carriers[0].number = 0),
+        changed(|lane| lane.carriers[0].number = 65_536),
+        changed(|lane| lane.carriers[1].number = 8 + (1 << 32)),
         changed(|lane| lane.carriers[1].number = 7),
         changed(|lane| lane.carriers[0].speed = 1_001),
+        changed(|lane| lane.carriers[0].speed = 1 << 32),
         changed(|lane| lane.carriers[0].position = 10_000),
         changed(|lane| lane.carriers[1].position = 1_000),
+        changed(|lane| lane.carriers[1].position = 700 + (1 << 32)),
         changed(|lane| lane.carriers[1].position = 1_000 - 64),
         changed(|lane| lane.carriers.swap(0, 1)),
     ];
@@ -116,11 +117,11 @@ fn a_lane_that_breaks_a_rule_is_21() {
 #[test]
 fn a_lane_just_within_the_rules_is_sound() {
     let sound = [
-        changed(|lane| lane.end = 1_001),
-        changed(|lane| lane.limit = 64),
+        changed(|lane| lane.road.end = 1_001),
+        changed(|lane| lane.road.limit = 64),
         changed(|lane| lane.carriers[1].position = 1_000 - 65),
         // Idle places may hold anything.
-        changed(|lane| lane.carriers[2] = carrier(7, u32::MAX, u32::MAX)),
+        changed(|lane| lane.carriers[2] = carrier(7, u64::MAX, u64::MAX)),
         full_lane(),
     ];
     for lane in sound {
@@ -129,12 +130,35 @@ fn a_lane_just_within_the_rules_is_sound() {
 }
 
 #[test]
+fn a_number_twice_is_found_wherever_it_stands() {
+    // The last stride gives numbers that agree in all their low bits.
+    for stride in [1, 1_023, 1_024] {
+        let mut lane = full_lane();
+        for (place, carrier) in (0..).zip(&mut lane.carriers) {
+            carrier.number = 1 + stride * place;
+        }
+        assert!(lane.read(1).is_ok());
+        for place in 1..64 {
+            for ahead in 0..place {
+                let mut twice = lane;
+                twice.carriers[place].number = twice.carriers[ahead].number;
+                refused(&twice, 21, Call::Read { number: 1 });
+            }
+        }
+    }
+}
+
+#[test]
 fn enter_checks_in_order() {
     let lane = example_lane(1_000);
     refused(&lane, 4, enter(0, 10_000, 1_001));
+    refused(&lane, 4, enter(65_536, 10_000, 1_001));
+    refused(&lane, 4, enter(9 + (1 << 32), 10_000, 1_001));
     refused(&lane, 5, enter(7, 10_000, 1_001));
-    refused(&lane, 5, enter(9, u32::MAX, 0));
+    refused(&lane, 5, enter(9, u64::MAX, 0));
+    refused(&lane, 5, enter(9, 1 << 32, 0));
     refused(&lane, 6, enter(7, 1_000, 1_001));
+    refused(&lane, 6, enter(7, 1_000, 1 << 32));
     refused(&lane, 23, enter(7, 1_000, 0));
     refused(&lane, 25, enter(9, 1_000, 0));
     let full = full_lane();
@@ -150,12 +174,12 @@ fn enter_is_safe_or_not_by_one() {
     // S(64, 96) = 160: behind the standing leader from 839 down.
     let lane = lane(0, 10_000, 1_000, &[(7, 1_000, 0)]);
     refused(&lane, 25, enter(8, 840, 96));
-    assert_eq!(lane.clone().enter(8, 839, 96), Ok(1));
+    assert_eq!(lane.clone().enter(carrier(8, 839, 96)), Ok(1));
     // Carrier 8 would rest at 999, so one standing at 1000 may go ahead of it.
     let behind = common::lane(0, 10_000, 1_000, &[(8, 839, 96)]);
     refused(&behind, 26, enter(7, 999, 0));
     refused(&behind, 26, enter(7, 840, 0));
-    assert_eq!(behind.clone().enter(7, 1_000, 0), Ok(0));
+    assert_eq!(behind.clone().enter(carrier(7, 1_000, 0)), Ok(0));
 }
 
 #[test]
@@ -166,10 +190,10 @@ fn enter_gives_the_place_and_shifts_the_rest() {
         1_000,
         &[(1, 3_000, 0), (2, 2_000, 0), (3, 1_000, 0)],
     );
-    assert_eq!(lane.enter(4, 1_500, 0), Ok(2));
-    assert_eq!(lane.enter(5, 9_999, 1_000), Ok(0));
-    assert_eq!(lane.enter(6, 0, 0), Ok(5));
-    let numbers: Vec<u16> = lane
+    assert_eq!(lane.enter(carrier(4, 1_500, 0)), Ok(2));
+    assert_eq!(lane.enter(carrier(5, 9_999, 1_000)), Ok(0));
+    assert_eq!(lane.enter(carrier(6, 0, 0)), Ok(5));
+    let numbers: Vec<u64> = lane
         .present()
         .iter()
         .map(|carrier| carrier.number)
@@ -180,7 +204,9 @@ fn enter_gives_the_place_and_shifts_the_rest() {
 #[test]
 fn leave_checks_in_order() {
     let mut lane = example_lane(1_000);
-    refused(&lane, 4, Call::Leave { number: 0 });
+    for number in [0, 65_536, 7 + (1 << 32), u64::MAX] {
+        refused(&lane, 4, Call::Leave { number });
+    }
     refused(&lane, 24, Call::Leave { number: 9 });
     assert_eq!(lane.leave(7), Ok(()));
     assert_eq!(lane.present(), [carrier(8, 700, 64)]);
@@ -216,6 +242,35 @@ fn cycle_checks_in_order() {
     refused(&lane, 28, cycle(2, &[]));
 }
 
+/// Asserts that the cycle is refused with `number` and leaves the lane as it was.
+fn refused_given(lane: &Lane, number: u32, count: u64, sorts: &[u8], values: &[u32]) {
+    let mut after = *lane;
+    let answer = after.cycle_given(count, sorts, values);
+    assert_eq!(answer.map_err(Refusal::number), Err(number));
+    assert_eq!(after, *lane, "a refusal changed the lane");
+}
+
+#[test]
+fn a_cycle_of_numbers_checks_in_order() {
+    const NAN: u32 = 0x7FC00000;
+    let mut lane = example_lane(1_000);
+    refused_given(&Lane::default(), 21, 3, &[], &[]);
+    lane.cycle = u64::MAX;
+    refused_given(&lane, 27, 3, &[4], &[]);
+    refused_given(&lane, 28, 2, &[4], &[]);
+    lane.cycle = 0;
+    refused_given(&lane, 12, 2, &[4], &[NAN, NAN]);
+    refused_given(&lane, 12, 2, &[1, 4], &[NAN]);
+    refused_given(&lane, 11, 2, &[1, 4], &[NAN, 0]);
+    refused_given(&lane, 11, 2, &[0, 1], &[0x8000, NAN]);
+    refused_given(&lane, 11, 2, &[3, 0], &[0, 0xFFFF_7FFF]);
+    refused_given(&lane, 7, 2, &[1, 0], &[NAN, 0]);
+    refused_given(&lane, 7, 2, &[0, 2], &[0, NAN]);
+    // What follows the first two is not looked at.
+    let cycled = lane.cycle_given(2, &[3, 0, 4], &[9, 32, NAN]);
+    assert_eq!(cycled.map(|cycled| cycled.word), Ok(2));
+}
+
 #[test]
 fn read_is_exact() {
     let lane = lane(
@@ -224,7 +279,9 @@ fn read_is_exact() {
         8_192,
         &[(65_535, (1 << 31) - 1, 8_191), (1, 1, 1)],
     );
-    refused(&lane, 4, Call::Read { number: 0 });
+    for number in [0, 65_536, 1 + (1 << 32), u64::MAX] {
+        refused(&lane, 4, Call::Read { number });
+    }
     refused(&lane, 24, Call::Read { number: 2 });
     let front = lane.read(65_535).expect("present");
     assert_eq!(front.position, 1_048_576.0 - 1.0 / 2048.0);

@@ -52,8 +52,8 @@ fn gap_of_six_is_unsafe_and_of_seven_safe() {
     let leader = carrier(1, 100, 7);
     for (gap, safe) in [(6, false), (7, true)] {
         let follower = carrier(2, 100 - gap, 7);
-        assert_eq!(safe_behind::<Summed>(row, follower, leader), safe);
-        assert_eq!(safe_behind::<Fast>(row, follower, leader), safe);
+        assert_eq!(safe_behind::<Summed>(&row, follower, leader), safe);
+        assert_eq!(safe_behind::<Fast>(&row, follower, leader), safe);
     }
 }
 
@@ -61,7 +61,7 @@ fn gap_of_six_is_unsafe_and_of_seven_safe() {
 fn level_is_never_safe() {
     // The leader would rest far ahead, but both are at one position.
     let (follower, leader) = (carrier(2, 100, 0), carrier(1, 100, 500));
-    assert!(!safe_behind::<Summed>(HOUSE_ROWS[0], follower, leader));
+    assert!(!safe_behind::<Summed>(&HOUSE_ROWS[0], follower, leader));
 }
 
 #[test]

@@ -71,7 +71,7 @@ fn conversion_agrees_with_doubles() {
 
 #[test]
 fn trimmed_to_surface_speed_and_limit() {
-    let row = HOUSE_ROWS[0];
+    let row = &HOUSE_ROWS[0];
     let trimmed = |units, speed| Wish::Units(units).trimmed(row, 1_000, carrier(1, 0, speed));
     assert_eq!(trimmed(-129, 500), Some(-128));
     assert_eq!(trimmed(-128, 500), Some(-128));

@@ -3,6 +3,7 @@ use borrow.Author.Needs.{needs}
 use mathlib.Core.List.{[]}
 use borrow.Author.Tests.{lt-ltb, le-ltb}
 use native.Mathlib.Omega.{arith}
+use Rattle.console.specs.Limits.{longestInput}
 use Rattle.console.specs.Output.{refusal}
 use Rattle.console.specs.Program.{tooLong, lengthAnswer}
 use Rattle.console.proofs.Printing.{put-within, put-nothing}
@@ -21,13 +22,13 @@ returns c =
     let put = c .before .before in
     let then = put .before .before in
     let a = then .before .before .args in
-    rw (lt-ltb 65536 (a .bytes) (then .if1 .taken)) (put-within (refusal 10) (a .out .now) (put .put-refusal .ensures))
+    rw (lt-ltb longestInput (a .bytes) (then .if1 .taken)) (put-within (refusal 10) (a .out .now) (put .put-refusal .ensures))
 
 returns-2 : tie.Need-returns-2
 unfolding tooLong lengthAnswer
 returns-2 c =
     let a = c .before .before .args in
-    rw (le-ltb 65536 (a .bytes) (omega arith)) (put-within [] (a .out .now) (put-nothing (a .out .now)))
+    rw (le-ltb longestInput (a .bytes) (omega arith)) (put-within [] (a .out .now) (put-nothing (a .out .now)))
 
 pub refuse-long-spec : {M : Type 1} → statement M
 refuse-long-spec =

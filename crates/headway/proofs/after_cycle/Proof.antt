@@ -1,7 +1,7 @@
 -- `headway::after_cycle` meets its contract, by the laws of `Signed` on the machine's sum of speed and acceleration.
 use borrow.Author.Needs.{needs}
 use native.Mathlib.Omega.{arith}
-use Rattle.headway.proofs.Signed.{low-fits, high-fits, too-low, too-high, sum-fits, sum-small, sum-cast, sum-moved}
+use Rattle.headway.proofs.Signed.{low-fits, high-fits, too-low, too-high, sum-fits, sum-cast, sum-moved}
 use Rattle.headway.proofs.after_cycle.Statement.{statement}
 use Rattle.headway.proofs.after_cycle.Tie as tie
 
@@ -34,23 +34,15 @@ cast-next c =
     let s = c .before .before in
     sum-cast (s .args .speed) (omega arith) (s .args .acceleration) (s .fits .acceleration) (c .before .if1 .left) (c .if2 .left)
 
-add-t10 : tie.Need-add-t10
-add-t10 c = search needs
-
-cast-t11 : tie.Need-cast-t11
-cast-t11 c =
-    let s = c .before .before in
-    omega (arith, sum-small (s .args .speed) (omega arith) (s .args .acceleration) (s .fits .acceleration) (c .before .if1 .left) (c .if2 .left))
-
-add-t12 : tie.Need-add-t12
-add-t12 c =
-    let s = c .before .before in
-    omega (arith, sum-small (s .args .speed) (omega arith) (s .args .acceleration) (s .fits .acceleration) (c .before .if1 .left) (c .if2 .left))
+reached-requires : tie.Need-reached-requires
+reached-requires c κs = search needs
 
 returns-3 : tie.Need-returns-3
 returns-3 c =
-    let s = c .before .before in
-    sum-moved (s .args .speed) (omega arith) (s .args .acceleration) (s .fits .acceleration) (c .before .if1 .left) (c .if2 .left) (s .args .position)
+    let d = c .before in
+    let s = d .before .before in
+    sum-moved (s .args .speed) (omega arith) (s .args .acceleration) (s .fits .acceleration) (d .before .if1 .left) (d .if2 .left) (s .args .position) _
+    (c .reached .ensures)
 
 pub after-cycle-spec : {M : Type 1} → statement M
 after-cycle-spec =
@@ -63,7 +55,5 @@ after-cycle-spec =
     returns-2
     add-next
     cast-next
-    add-t10
-    cast-t11
-    add-t12
+    reached-requires
     returns-3)

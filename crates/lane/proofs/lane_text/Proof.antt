@@ -1,22 +1,23 @@
--- `lane::lane_text` meets its contract: a broken lane and a text longer than the buffer are refused, else the text is put at the buffer's start.
-use borrow.Author.Needs.{needs}
-use mathlib.Core.Path.{_≡_, sym, _∙_}
+use mathlib.Core.Path.{_≡_, refl, sym, _∙_, subst, ap₂}
 use mathlib.Core.Bool.{false}
-use Prim.Native.Nat.{_≤_}
+use Prim.Native.Nat.{ℕ}
 use native.Mathlib.Omega.{arith}
-use Rattle.lane.specs.State.{stateOf}
-use Rattle.lane.specs.Calls.{broken}
+use borrow.Author.Needs.{needs}
+use borrow.Author.Tests.{ltb-false}
+use lib.Dec.{ltb}
+use lib.ListN.{length}
+use Rattle.lane.specs.Layout.{stateOf}
+use Rattle.lane.specs.Rules.{broken}
 use Rattle.lane.specs.Listing.{laneText}
-use Rattle.lane.proofs.Soundness.{sound}
-use Rattle.lane.proofs.Texts.{text-broken, text-too-long, text-fits}
+use Rattle.lane.specs.Call.{text-call, told, Answer, Gives}
+use Rattle.lane.proofs.checks.Soundness.{sound}
+use Rattle.lane.proofs.calls.Texts.{text-broken, text-too-long, text-fits, text-put}
+use Rattle.lane.proofs.calls.Answers.{gives-refused, gives-accepted}
 use Rattle.lane.proofs.lane_text.Statement.{statement}
 use Rattle.lane.proofs.lane_text.Tie as tie
 
-unbroken : (c : tie.Else1) → broken (stateOf (c .before .before .before .args .l)) ≡ false
+unbroken : (c : tie.Else1) → broken (stateOf (c .before .before .before .args .l .now)) ≡ false
 unbroken c = sym (c .before .breaks-rule .ensures) ∙ c .if1 .left
-
-few : (c : tie.Else1) → c .before .before .before .args .l .count ≤ 64
-few c = sound _ (unbroken c) .count
 
 breaks-rule-requires : tie.Need-breaks-rule-requires
 breaks-rule-requires c κs = search needs
@@ -24,36 +25,41 @@ breaks-rule-requires c κs = search needs
 returns : tie.Need-returns
 returns c =
     let a = c .before .before .before .args in
-    let t = text-broken (stateOf (a .l)) (a .out .now) (sym (c .before .breaks-rule .ensures) ∙ c .if1 .taken) in
-    record { number = t .0; long = t .1 .0; bytes = t .1 .1; room = λ e. absurd (omega arith) }
+    let n = text-broken (stateOf (a .l .now)) (a .out .now) (sym (c .before .breaks-rule .ensures) ∙ c .if1 .taken) in
+    gives-refused (text-call (a .out .now)) (a .l .now) 21 (sym n) (λ e. omega arith)
 
-text-length-requires : tie.Need-text-length-requires
-text-length-requires c κs = few c
+longer-than-requires : tie.Need-longer-than-requires
+longer-than-requires c κs = unbroken c
 
 returns-2 : tie.Need-returns-2
-unfolding laneText
 returns-2 c =
     let passed = c .before .before in
     let a = passed .before .before .before .args in
-    let t = text-too-long (stateOf (a .l)) (a .out .now) (unbroken passed) (c .before .text-length .ensures .0) (c .if2 .taken) in
-    record { number = t .0; long = t .1 .0; bytes = t .1 .1; room = λ e. omega (arith, c .before .text-length .ensures .1, c .if2 .taken) }
+    let n = text-too-long (stateOf (a .l .now)) (a .out .now) (unbroken passed) (sym (c .before .longer-than .ensures) ∙ c .if2 .taken) in
+    gives-refused (text-call (a .out .now)) (a .l .now) 9 (sym n) (λ e. omega arith)
+
+-- and the text is not longer than the buffer
+fitting : (c : tie.Else2)
+    → let a = c .before .before .before .before .before .args in ltb (length (a .out .now)) (length (laneText (stateOf (a .l .now)))) ≡ false
+fitting c = sym (c .before .longer-than .ensures) ∙ c .if2 .left
 
 put-text-requires : tie.Need-put-text-requires
-put-text-requires c κs =
-    let long = c .before .before in (few (long .before), omega (arith, long .text-length .ensures .0))
+put-text-requires c κs = (sound _ (unbroken (c .before .before .before)) .count, ltb-false _ _ (fitting (c .before)))
 
 same-length : tie.Need-same-length
 same-length c = search needs
 
 returns-3 : tie.Need-returns-3
-unfolding laneText
 returns-3 c =
     let put = c .before .before in
     let fits = put .before .before in
     let passed = fits .before .before in
     let a = passed .before .before .before .args in
-    let t = text-fits (stateOf (a .l)) (a .out .now) (unbroken passed) (fits .before .text-length .ensures .0) (fits .if2 .left) (put .put-text .ensures) in
-    record { number = t .0; long = t .1 .0; bytes = t .1 .1; room = λ e. absurd (omega arith) }
+    let s = stateOf (a .l .now) in
+    let x = text-call (a .out .now) in
+    let bytes = put .put-text .ensures .0 ∙ text-put s (a .out .now) (ltb-false _ _ (fitting fits)) in
+    subst (λ (t : Answer). Gives x (a .l .now) t (a .l .now)) (ap₂ (told 0) (sym (put .put-text .ensures .1)) (sym bytes))
+    (gives-accepted x (a .l .now) (a .l .now) (text-fits s (a .out .now) (unbroken passed) (fitting fits)) refl)
 
 pub lane-text-spec : {M : Type 1} → statement M
 lane-text-spec =
@@ -61,7 +67,7 @@ lane-text-spec =
     (tie.spec
     breaks-rule-requires
     returns
-    text-length-requires
+    longer-than-requires
     returns-2
     put-text-requires
     same-length

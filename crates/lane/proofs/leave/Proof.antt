@@ -1,21 +1,30 @@
--- `lane::leave` meets its contract: refused it hands the lane back, else the carrier at the place found is taken out.
-use borrow.Author.Needs.{needs}
-use mathlib.Core.Path.{_≡_, refl, sym, ap, _∙_}
-use Prim.Native.Nat.{ℕ, _-_}
+use mathlib.Core.Path.{_≡_, sym, ap, _∙_}
+use Prim.Native.Nat.{ℕ, _≤_, _<_}
 use native.Mathlib.Omega.{arith}
-use lib.ListN.{length, take}
-use Rattle.lane.specs.State.{stateOf}
-use Rattle.lane.specs.Calls.{withCarriers, removeAt, namedPlace}
-use Rattle.lane.proofs.Lists.{length-mapped}
-use Rattle.lane.proofs.Records.{carriers-are}
-use Rattle.lane.proofs.Answers.{At, named-at, leave-refused, leave-accepted, length-removed}
+use borrow.Author.Needs.{needs}
+use Rattle.lane.specs.Layout.{Words, stateOf}
+use Rattle.lane.specs.Calls.{namedNo, placeOf, removeAt, withCarriers, leftState}
+use Rattle.lane.specs.Call.{leave-call}
+use Rattle.lane.proofs.calls.Answers.{gives-refused, gives-accepted, accepted-has, named-tells, counted-most}
 use Rattle.lane.proofs.leave.Statement.{statement}
 use Rattle.lane.proofs.leave.Tie as tie
 
-at : (k : tie.After-check-named) → k .check-named .result .no ≡ 0 → At (k .before .args .l) (k .check-named .result .place)
-at k h =
-    let long : length (k .before .args .l .carriers) ≡ 64 = search (needs, length-mapped) in
-    named-at (k .before .args .l) (k .before .args .number) (k .check-named .result .no) (k .check-named .result .place) long (k .check-named .ensures .0) (k .check-named .ensures .1) h
+-- the checks are passed
+module _ (c : tie.Else1) where
+  abbrev checked : tie.After-check-named
+  checked = c .before .before
+
+  abbrev lane : Words
+  lane = checked .before .before .args .l .now
+
+  abbrev number : ℕ
+  number = checked .before .before .args .number
+
+  accepted : namedNo (stateOf lane) number ≡ 0
+  accepted = sym (checked .check-named .ensures .0) ∙ c .if1 .left
+
+  place-is : checked .check-named .result .place ≡ placeOf number (stateOf lane .carriers)
+  place-is = checked .check-named .ensures .1 ∙ accepted-has _ _ 0 accepted
 
 check-named-requires : tie.Need-check-named-requires
 check-named-requires c κs = search needs
@@ -23,38 +32,22 @@ check-named-requires c κs = search needs
 returns : tie.Need-returns
 returns c =
     let k = c .before .before in
-    record {
-      number = k .check-named .ensures .0;
-      state = leave-refused (stateOf (k .before .args .l)) (k .before .args .number) (k .check-named .result .no) (k .check-named .ensures .0) (c .if1 .taken);
-      refused = λ h. refl;
-    }
+    let a = k .before .before .args in
+    gives-refused (leave-call (a .number)) (a .l .now) (k .check-named .result .no) (k .check-named .ensures .0) (c .if1 .taken)
 
-removed-requires : tie.Need-removed-requires
-removed-requires c κs = let k = c .before .before .before in let p = at k (c .before .if1 .left) in (p .within, p .few)
-
-sub-next : tie.Need-sub-next
-sub-next c = let k = c .before .before .before .before in omega (arith, at k (c .before .before .if1 .left) .within)
+remove-requires : tie.Need-remove-requires
+remove-requires c κs =
+    let l = lane (c .before) in
+    let t = named-tells (stateOf l) (number (c .before)) (accepted (c .before)) in
+    (omega (arith, place-is (c .before), t .within, counted-most l), t .sound .count)
 
 returns-2 : tie.Need-returns-2
+unfolding leftState
 returns-2 c =
-    let k = c .before .before .before .before in
-    let h = c .before .before .if1 .left in
-    let a = k .before .args .l in
-    let p = at k h in
-    let number = k .before .args .number in
-    let place = k .check-named .result .place in
-    let e : place ≡ namedPlace (stateOf a) number = k .check-named .ensures .1 in
-    let cs = removeAt place (take (a .count) (a .carriers)) in
-    record {
-      number = sym h ∙ k .check-named .ensures .0;
-      state =
-          carriers-are a a (a .count - 1) (c .removed .result) cs refl
-          (sym (length-removed place (take (a .count) (a .carriers)) (omega (arith, p .within, p .counted)) ∙ ap (λ (n : ℕ). n - 1) (p .counted)))
-          (c .removed .ensures)
-          ∙ ap (λ (n : ℕ). withCarriers (stateOf a) (removeAt n (take (a .count) (a .carriers)))) e
-          ∙ leave-accepted (stateOf a) number (k .check-named .result .no) (k .check-named .ensures .0) h;
-      refused = λ x. absurd (omega arith);
-    }
+    let else = c .before .before in
+    let s = stateOf (lane else) in
+    gives-accepted (leave-call (number else)) (lane else) (c .remove .last .0) (accepted else)
+    (c .remove .ensures ∙ ap (λ (n : ℕ). withCarriers s (removeAt n (s .carriers))) (place-is else))
 
 pub leave-spec : {M : Type 1} → statement M
-leave-spec = tie.close (tie.spec check-named-requires returns removed-requires sub-next returns-2)
+leave-spec = tie.close (tie.spec check-named-requires returns remove-requires returns-2)

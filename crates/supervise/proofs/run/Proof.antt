@@ -5,11 +5,12 @@ use mathlib.Core.Path.{_≡_, sym}
 use Prim.Native.Nat.{_<_, _^_}
 use lib.ListN.{length}
 use lib.Seq.{length-take-le}
+use Rattle.console.specs.Limits.{answerSpace}
 use Rattle.supervise.proofs.run.Statement.{statement}
 use Rattle.supervise.proofs.run.Tie as tie
 
 abbrev Inv-loop : tie.InvT-loop
-Inv-loop input lane₀ space₀ at₀ turns₀ lane space at turns = (length space ≡ 4096) × (turns < 2 ^ 64)
+Inv-loop input lane₀ space₀ at₀ turns₀ lane space at turns = (length space ≡ answerSpace) × (turns < 2 ^ 64)
 
 abbrev μ-loop : tie.MeasureT-loop
 μ-loop input lane₀ space₀ at₀ turns₀ lane space at turns = turns
@@ -27,13 +28,13 @@ step-requires : tie.Need-step-requires Inv-loop μ-loop
 step-requires c κs = search needs
 
 array-share-prefix-space : tie.Need-array-share-prefix-space Inv-loop μ-loop
-array-share-prefix-space c = let g = c .before .step .ensures in omega (arith, g .written-length, g .room)
+array-share-prefix-space c = let p = c .before .step .ensures .prints in omega (arith, p .written-length, p .room)
 
 slice-aggregate-write-whole : tie.Need-slice-aggregate-write-whole Inv-loop μ-loop
 slice-aggregate-write-whole c =
     let k = c .before .before .step in
-    let g = k .ensures in
-    sym (length-take-le (k .result .written) (k .last .1 .1 .1 .0) (omega (arith, g .written-length, g .room)))
+    let p = k .ensures .prints in
+    sym (length-take-le (k .result .written) (k .last .1 .1 .1 .0) (omega (arith, p .written-length, p .room)))
 
 write-whole-requires : tie.Need-write-whole-requires Inv-loop μ-loop
 write-whole-requires c κs = search needs

@@ -1,25 +1,21 @@
-//! The product's C functions and the structs that they pass by value.
+//! The product's C functions and the structs that they pass by value. The
+//! lane is looked at as plain words, row by row.
 
-use lane_reference::{self as reference, PLACES};
+/// A lane as it is lent.
+pub type Words = [[u64; 8]; 89];
 
 #[repr(C)]
-#[derive(Clone, Copy)]
-pub struct Carrier {
-    number: u16,
-    position: u32,
-    speed: u32,
+pub struct Road {
+    pub surface: u64,
+    pub end: u64,
+    pub limit: u64,
 }
 
 #[repr(C)]
-#[derive(Clone, Copy)]
-pub struct Lane {
-    started: Flag,
-    surface: u32,
-    end: u32,
-    limit: u32,
-    cycle: u64,
-    count: usize,
-    carriers: [Carrier; PLACES],
+pub struct Carrier {
+    pub number: u64,
+    pub position: u64,
+    pub speed: u64,
 }
 
 /// A C `bool` as it lies in memory, so that one that is neither can be told.
@@ -28,16 +24,9 @@ pub struct Lane {
 pub struct Flag(u8);
 
 #[repr(C)]
-pub struct Changed {
-    pub no: u32,
-    pub lane: Lane,
-}
-
-#[repr(C)]
 pub struct Entered {
     pub no: u32,
     pub place: usize,
-    pub lane: Lane,
 }
 
 #[repr(C)]
@@ -46,7 +35,6 @@ pub struct Cycled {
     pub word: u64,
     pub replaced: u32,
     pub gone: u32,
-    pub lane: Lane,
 }
 
 #[repr(C)]
@@ -69,29 +57,28 @@ pub struct Listed {
 
 #[repr(C)]
 pub struct Stepped {
-    pub lane: Lane,
     pub next: usize,
     pub written: usize,
     pub stop: Flag,
 }
 
 extern "C" {
-    pub fn rondavitse_empty() -> Lane;
-    pub fn rondavitse_start(lane: Lane, surface: u32, end: u32, limit: u32, cycle: u64) -> Changed;
-    pub fn rondavitse_enter(lane: Lane, number: u16, position: u32, speed: u32) -> Entered;
-    pub fn rondavitse_leave(lane: Lane, number: u16) -> Changed;
+    pub fn rondavitse_empty(lane: *mut Words);
+    pub fn rondavitse_start(lane: *mut Words, road: Road, first: u64) -> u32;
+    pub fn rondavitse_enter(lane: *mut Words, carrier: Carrier) -> Entered;
+    pub fn rondavitse_leave(lane: *mut Words, number: u64) -> u32;
     pub fn rondavitse_cycle(
-        lane: Lane,
+        lane: *mut Words,
         count: usize,
         sorts: *const u8,
         sorts_len: usize,
         values: *const u32,
         values_len: usize,
     ) -> Cycled;
-    pub fn rondavitse_read(lane: Lane, number: u16) -> ReadOut;
-    pub fn rondavitse_lane_text(lane: Lane, out: *mut u8, out_len: usize) -> Listed;
+    pub fn rondavitse_read(lane: *const Words, number: u64) -> ReadOut;
+    pub fn rondavitse_lane_text(lane: *const Words, out: *mut u8, out_len: usize) -> Listed;
     pub fn rondavitse_step(
-        lane: Lane,
+        lane: *mut Words,
         input: *const u8,
         len: usize,
         at: usize,
@@ -104,41 +91,5 @@ impl From<Flag> for bool {
     fn from(flag: Flag) -> bool {
         assert!(flag.0 <= 1, "a bool that is {}", flag.0);
         flag.0 == 1
-    }
-}
-
-impl From<&reference::Lane> for Lane {
-    fn from(lane: &reference::Lane) -> Lane {
-        Lane {
-            started: Flag(lane.started.into()),
-            surface: lane.surface,
-            end: lane.end,
-            limit: lane.limit,
-            cycle: lane.cycle,
-            count: lane.count as usize,
-            carriers: lane.carriers.map(|carrier| Carrier {
-                number: carrier.number,
-                position: carrier.position,
-                speed: carrier.speed,
-            }),
-        }
-    }
-}
-
-impl From<Lane> for reference::Lane {
-    fn from(lane: Lane) -> reference::Lane {
-        reference::Lane {
-            started: lane.started.into(),
-            surface: lane.surface,
-            end: lane.end,
-            limit: lane.limit,
-            cycle: lane.cycle,
-            count: lane.count as u64,
-            carriers: lane.carriers.map(|carrier| reference::Carrier {
-                number: carrier.number,
-                position: carrier.position,
-                speed: carrier.speed,
-            }),
-        }
     }
 }

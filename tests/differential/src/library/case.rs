@@ -1,10 +1,10 @@
 //! A lane and the calls on it in turn.
 
+use super::binding::Words;
 use super::host_call::HostCall;
-use lane_reference::Lane;
 
 #[derive(Clone, Debug, PartialEq, Eq)]
 pub struct Case {
-    pub first: Lane,
+    pub first: Words,
     pub calls: Vec<HostCall>,
 }

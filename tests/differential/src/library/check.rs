@@ -1,41 +1,60 @@
 //! A case through both implementations, and through the road book.
 
+use super::binding::Words;
 use super::case::Case;
 use super::host;
-use super::host_call::{wish, HostCall};
+use super::host_call::HostCall;
 use super::outcome::Outcome;
 use super::reference;
+use super::words;
 use lane_reference::road_book::Checker;
 use lane_reference::stopping::Fast;
-use lane_reference::{Call, Lane, Wish, PLACES};
+use lane_reference::{Call, Wish, PLACES};
 
 /// How many calls were made, and what the last of them did wrong.
 ///
-/// Each call gets the lane that the product returned from the one before.
+/// Each call gets the lane that the product left after the one before, but
+/// with other free words: no answer may depend on them.
 pub fn run(case: &Case) -> (u64, Result<(), String>) {
     let mut lane = case.first;
     // The road book is for histories, which begin without carriers.
-    let mut book = (lane.count == 0).then(|| Checker::new(&lane));
+    let first = words::lane(&lane);
+    let mut book = (first.count == 0).then(|| Checker::new(&first));
     for (calls, call) in (1..).zip(&case.calls) {
-        let outcome = host::outcome(&lane, call);
-        let wrong = compared(&lane, call, &outcome).and_then(|()| match &mut book {
-            Some(book) => recorded(book, call, &outcome),
-            None => Ok(()),
-        });
+        if calls > 1 {
+            words::scramble(&mut lane, calls);
+        }
+        let before = lane;
+        let outcome = host::outcome(&mut lane, call);
+        let wrong = compared(&before, call, &outcome)
+            .and_then(|()| kept(&before, call, &outcome, &lane))
+            .and_then(|()| match &mut book {
+                Some(book) => recorded(book, call, &outcome),
+                None => Ok(()),
+            });
         if let Err(what) = wrong {
             return (calls, Err(format!("{call:?}\n{what}")));
         }
-        lane = outcome.lane;
     }
     (case.calls.len() as u64, Ok(()))
 }
 
-fn compared(lane: &Lane, call: &HostCall, outcome: &Outcome) -> Result<(), String> {
-    let expected = reference::outcome(lane, call);
-    if outcome.agrees(&expected) {
+fn compared(before: &Words, call: &HostCall, outcome: &Outcome) -> Result<(), String> {
+    let expected = reference::outcome(&words::lane(before), call);
+    if *outcome == expected {
         Ok(())
     } else {
         Err(format!("wanted {expected:?}\ngot {outcome:?}"))
+    }
+}
+
+/// After a refusal, and after a call that only reads, every word is as before.
+fn kept(before: &Words, call: &HostCall, outcome: &Outcome, after: &Words) -> Result<(), String> {
+    if (outcome.no == 0 && !call.only_reads()) || before == after {
+        Ok(())
+    } else {
+        let rows = (0..before.len()).filter(|&row| before[row] != after[row]);
+        Err(format!("rows changed: {:?}", rows.collect::<Vec<_>>()))
     }
 }
 
@@ -56,18 +75,20 @@ fn recorded(book: &mut Checker, call: &HostCall, outcome: &Outcome) -> Result<()
 fn meant(count: u64, sorts: &[u8], values: &[u32]) -> Call {
     let mut wishes = Box::new([Wish::Hold; PLACES]);
     for (place, (&sort, &value)) in wishes.iter_mut().zip(sorts.iter().zip(values)) {
-        *place = wish(sort, value).unwrap_or_default();
+        *place = Wish::of_numbers(sort, value).unwrap_or_default();
     }
     Call::Cycle { count, wishes }
 }
 
 /// The last of so many calls alone, if that shows a difference too; else all of them.
 pub fn shortened(case: &Case, calls: u64) -> Case {
-    let calls = &case.calls[..calls as usize];
-    let (last, before) = calls.split_last().expect("a call that differs");
-    let reached = before
-        .iter()
-        .fold(case.first, |lane, call| host::outcome(&lane, call).lane);
+    let made = &case.calls[..calls as usize];
+    let (last, before) = made.split_last().expect("a call that differs");
+    let mut reached = case.first;
+    for (next, call) in (2..).zip(before) {
+        host::outcome(&mut reached, call);
+        words::scramble(&mut reached, next);
+    }
     let alone = Case {
         first: reached,
         calls: vec![last.clone()],
@@ -77,6 +98,6 @@ pub fn shortened(case: &Case, calls: u64) -> Case {
     }
     Case {
         first: case.first,
-        calls: calls.to_vec(),
+        calls: made.to_vec(),
     }
 }

@@ -1,10 +1,12 @@
 //! Random cases: histories, and calls on lanes that a host may hand in.
 
+use super::binding::Words;
 use super::case::Case;
 use super::host;
-use super::host_call::{sort_and_value, wish, HostCall};
+use super::host_call::HostCall;
+use super::words;
 use lane_reference::random::{
-    call, history, sound_lane, unsound_lane, History, Random, EVEN, FLOAT_EDGES,
+    call, history, sound_lane, unsound_lane, widened, History, Random, EVEN, FLOAT_EDGES,
 };
 use lane_reference::{Call, FastLane, Lane, Supervisor, Wish, PLACES};
 
@@ -27,7 +29,7 @@ pub fn case(random: &mut Random) -> Case {
     let (first, calls) = match random.below(8) {
         0..=2 => {
             let History { first, calls } = history(random, 130);
-            (first, calls)
+            (words::of_lane(random, &first), calls)
         }
         3 => (host::empty(), history(random, 130).calls),
         4..=5 => on_lane(random, sound_lane, 20),
@@ -38,7 +40,11 @@ pub fn case(random: &mut Random) -> Case {
 }
 
 /// A lane and calls, each fitted to the lane as the reference has it then.
-fn on_lane(random: &mut Random, lane: fn(&mut Random) -> Lane, length: usize) -> (Lane, Vec<Call>) {
+fn on_lane(
+    random: &mut Random,
+    lane: fn(&mut Random) -> Lane,
+    length: usize,
+) -> (Words, Vec<Call>) {
     let first = lane(random);
     let mut lane = FastLane(first);
     let mut calls = Vec::new();
@@ -48,12 +54,14 @@ fn on_lane(random: &mut Random, lane: fn(&mut Random) -> Lane, length: usize) ->
         let _ = lane.call(&next);
         calls.push(next);
     }
-    (first, calls)
+    (words::of_lane(random, &first), calls)
 }
 
+/// The call as a host makes it, now and then with an argument that is too wide.
 fn hosted(random: &mut Random, call: Call) -> HostCall {
     let Call::Cycle { count, wishes } = call else {
-        return HostCall::Plain(call);
+        let wide = random.chance(3);
+        return HostCall::Plain(if wide { widened(random, &call) } else { call });
     };
     match random.below(30) {
         0 => without_enough(random, count, &wishes),
@@ -67,9 +75,9 @@ fn hosted(random: &mut Random, call: Call) -> HostCall {
 
 /// Both lists; the value of a hold is anything.
 fn listed(random: &mut Random, count: u64, wishes: &[Wish]) -> HostCall {
-    let pairs = wishes.iter().map(|&wish| {
+    let pairs = wishes.iter().map(|wish| {
         let any = random.pick(&FLOAT_EDGES);
-        sort_and_value(wish, any)
+        wish.in_numbers(any)
     });
     let (sorts, values) = pairs.unzip();
     HostCall::Cycle {
@@ -79,11 +87,13 @@ fn listed(random: &mut Random, count: u64, wishes: &[Wish]) -> HostCall {
     }
 }
 
-/// One list or both too short. The wishes themselves are in range: which of
-/// two faults comes first is not said.
+/// One list or both too short.
 fn without_enough(random: &mut Random, count: u64, wishes: &[Wish; PLACES]) -> HostCall {
-    let sound = wishes.map(|wish| if wish.in_range() { wish } else { Wish::Hold });
-    let mut call = listed(random, count, &sound);
+    let mut call = if random.chance(50) {
+        listed(random, count, wishes)
+    } else {
+        with_no_wish(random, count, wishes)
+    };
     if let HostCall::Cycle { sorts, values, .. } = &mut call {
         let some = random.below(count.clamp(1, PLACES as u64)) as usize;
         let short = random.pick(&[some, 0, some.saturating_sub(1)]);
@@ -105,7 +115,7 @@ fn with_no_wish(random: &mut Random, count: u64, wishes: &[Wish; PLACES]) -> Hos
         } else {
             (random.pick(&NO_SORTS), random.bits() as u32)
         };
-        debug_assert_eq!(wish(sorts[place], values[place]), None);
+        debug_assert_eq!(Wish::of_numbers(sorts[place], values[place]), None);
     }
     call
 }

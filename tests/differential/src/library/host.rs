@@ -1,108 +1,94 @@
-//! The product's answers.
+//! The product's answers. Each call changes the lane in place.
 
-use super::binding::{self, *};
+use super::binding::*;
 use super::host_call::HostCall;
 use super::outcome::{lent, within, Outcome};
-use lane_reference::{Call, Lane};
+use super::words;
+use lane_reference::Call;
 
 /// One step of the program.
 pub struct Step {
-    pub lane: Lane,
     pub next: usize,
     pub written: usize,
     pub stop: bool,
 }
 
-pub fn empty() -> Lane {
-    unsafe { rondavitse_empty() }.into()
+/// The empty lane, whatever was there before.
+pub fn empty() -> Words {
+    let mut lane = [[u64::MAX; 8]; 89];
+    unsafe { rondavitse_empty(&mut lane) };
+    lane
 }
 
-pub fn outcome(lane: &Lane, call: &HostCall) -> Outcome {
-    let handed = binding::Lane::from(lane);
+pub fn outcome(lane: &mut Words, call: &HostCall) -> Outcome {
     match call {
-        HostCall::Plain(call) => plain(lane, handed, call),
+        HostCall::Plain(Call::LaneText { room }) => lane_text(lane, *room),
+        HostCall::Plain(call) => {
+            let (no, values) = plain(lane, call);
+            Outcome::new(no, &values, &words::lane(lane))
+        }
         HostCall::Cycle {
             count,
             sorts,
             values,
-        } => {
-            let count = *count as usize;
-            let (s, v) = (sorts.as_ptr(), values.as_ptr());
-            let cycled =
-                unsafe { rondavitse_cycle(handed, count, s, sorts.len(), v, values.len()) };
-            let counts = [cycled.replaced, cycled.gone].map(u64::from);
-            changed(cycled.no, &[cycled.word, counts[0], counts[1]], cycled.lane)
-        }
+        } => cycle(lane, *count as usize, sorts, values),
     }
 }
 
-fn plain(lane: &Lane, handed: binding::Lane, call: &Call) -> Outcome {
+/// The number and the values of any call but cycle and lane text.
+fn plain(lane: &mut Words, call: &Call) -> (u32, Vec<u64>) {
     match *call {
-        Call::Start {
-            surface,
-            end,
-            limit,
-            cycle,
-        } => {
-            let started = unsafe { rondavitse_start(handed, surface, end, limit, cycle) };
-            changed(started.no, &[], started.lane)
+        Call::Start { road, first } => {
+            let road = Road {
+                surface: road.surface,
+                end: road.end,
+                limit: road.limit,
+            };
+            (unsafe { rondavitse_start(lane, road, first) }, vec![])
         }
-        Call::Enter {
-            number,
-            position,
-            speed,
-        } => {
-            let entered = unsafe { rondavitse_enter(handed, number, position, speed) };
-            changed(entered.no, &[entered.place as u64], entered.lane)
+        Call::Enter(carrier) => {
+            let carrier = Carrier {
+                number: carrier.number,
+                position: carrier.position,
+                speed: carrier.speed,
+            };
+            let entered = unsafe { rondavitse_enter(lane, carrier) };
+            (entered.no, vec![entered.place as u64])
         }
-        Call::Leave { number } => {
-            let left = unsafe { rondavitse_leave(handed, number) };
-            changed(left.no, &[], left.lane)
+        Call::Leave { number } => (unsafe { rondavitse_leave(lane, number) }, vec![]),
+        Call::Read { number } => {
+            let ReadOut { no, reading } = unsafe { rondavitse_read(lane, number) };
+            (
+                no,
+                vec![reading.position.to_bits(), reading.speed.to_bits()],
+            )
         }
-        Call::Read { number } => read(lane, handed, number),
-        Call::LaneText { room } => lane_text(lane, handed, room),
+        Call::LaneText { .. } => unreachable!("a lane text has a lent buffer"),
         Call::Cycle { .. } => unreachable!("a host's cycle is no plain call"),
     }
 }
 
-fn changed(no: u32, values: &[u64], lane: binding::Lane) -> Outcome {
-    Outcome {
-        no,
-        values: values.to_vec(),
-        lent: Vec::new(),
-        lane: lane.into(),
-    }
+fn cycle(lane: &mut Words, count: usize, sorts: &[u8], values: &[u32]) -> Outcome {
+    let (s, v) = (sorts.as_ptr(), values.as_ptr());
+    let cycled = unsafe { rondavitse_cycle(lane, count, s, sorts.len(), v, values.len()) };
+    let (replaced, gone) = (cycled.replaced.into(), cycled.gone.into());
+    let values = [cycled.word, replaced, gone];
+    Outcome::new(cycled.no, &values, &words::lane(lane))
 }
 
-fn read(lane: &Lane, handed: binding::Lane, number: u16) -> Outcome {
-    let ReadOut { no, reading } = unsafe { rondavitse_read(handed, number) };
-    Outcome {
-        no,
-        values: vec![reading.position.to_bits(), reading.speed.to_bits()],
-        lent: Vec::new(),
-        lane: *lane,
-    }
-}
-
-fn lane_text(lane: &Lane, handed: binding::Lane, room: usize) -> Outcome {
+fn lane_text(lane: &Words, room: usize) -> Outcome {
     let mut lent = lent(room);
     let buffer = within(&mut lent);
     let Listed { no, length } =
-        unsafe { rondavitse_lane_text(handed, buffer.as_mut_ptr(), buffer.len()) };
-    Outcome {
-        no,
-        values: vec![length as u64],
-        lent,
-        lane: *lane,
-    }
+        unsafe { rondavitse_lane_text(lane, buffer.as_mut_ptr(), buffer.len()) };
+    Outcome::new(no, &[length as u64], &words::lane(lane)).with_lent(lent)
 }
 
 /// One block of `input`, from `at` on; its answer goes into `out`.
-pub fn step(lane: &Lane, input: &[u8], at: usize, out: &mut [u8]) -> Step {
+pub fn step(lane: &mut Words, input: &[u8], at: usize, out: &mut [u8]) -> Step {
     let (i, o) = (input.as_ptr(), out.as_mut_ptr());
-    let stepped = unsafe { rondavitse_step(lane.into(), i, input.len(), at, o, out.len()) };
+    let stepped = unsafe { rondavitse_step(lane, i, input.len(), at, o, out.len()) };
     Step {
-        lane: stepped.lane.into(),
         next: stepped.next,
         written: stepped.written,
         stop: stepped.stop.into(),

@@ -1,6 +1,6 @@
 //! Calls as a host makes them.
 
-use lane_reference::{Call, Wish};
+use lane_reference::Call;
 
 /// A call of the library.
 #[derive(Clone, Debug, PartialEq, Eq)]
@@ -16,23 +16,12 @@ pub enum HostCall {
     },
 }
 
-/// What a sort and a value mean; nothing where they are no wish.
-pub fn wish(sort: u8, value: u32) -> Option<Wish> {
-    match sort {
-        0 => i16::try_from(value as i32).ok().map(Wish::Units),
-        1 => Some(Wish::Acceleration(value)),
-        2 => Some(Wish::TargetSpeed(value)),
-        3 => Some(Wish::Hold),
-        _ => None,
-    }
-}
-
-/// The sort and the value of a wish; of a hold the value is `any`.
-pub fn sort_and_value(wish: Wish, any: u32) -> (u8, u32) {
-    match wish {
-        Wish::Units(units) => (0, i32::from(units) as u32),
-        Wish::Acceleration(bits) => (1, bits),
-        Wish::TargetSpeed(bits) => (2, bits),
-        Wish::Hold => (3, any),
+impl HostCall {
+    /// Whether the call is lent the lane only to be read.
+    pub fn only_reads(&self) -> bool {
+        matches!(
+            self,
+            HostCall::Plain(Call::Read { .. } | Call::LaneText { .. })
+        )
     }
 }

@@ -1,21 +1,20 @@
 //! Cases as text: a word and its figures on each line.
 
+use super::binding::Words;
 use super::case::Case;
 use super::host_call::HostCall;
-use lane_reference::{Call, Carrier, Lane};
+use lane_reference::{Call, Carrier, Road};
 use std::fmt::Write;
 use std::str::{FromStr, SplitWhitespace};
 
-/// The case as text, which [`parse`] reads back.
+/// The case as text, which [`parse`] reads back. Rows of the lane that are
+/// all 0 are left out.
 pub fn print(case: &Case) -> String {
-    let lane = &case.first;
-    let mut text = format!(
-        "lane {} {} {} {} {} {}\n",
-        lane.started, lane.surface, lane.end, lane.limit, lane.cycle, lane.count
-    );
-    for carrier in lane.carriers {
-        let (number, position, speed) = (carrier.number, carrier.position, carrier.speed);
-        writeln!(text, "carrier {number} {position} {speed}").expect("a string takes all");
+    let mut text = String::new();
+    for (place, row) in case.first.iter().enumerate() {
+        if row.iter().any(|&word| word != 0) {
+            writeln!(text, "row {place}{}", joined(row)).expect("a string takes all");
+        }
     }
     for call in &case.calls {
         text += &print_call(call);
@@ -26,17 +25,14 @@ pub fn print(case: &Case) -> String {
 
 fn print_call(call: &HostCall) -> String {
     match call {
-        HostCall::Plain(Call::Start {
-            surface,
-            end,
-            limit,
-            cycle,
-        }) => format!("start {surface} {end} {limit} {cycle}\n"),
-        HostCall::Plain(Call::Enter {
-            number,
-            position,
-            speed,
-        }) => format!("enter {number} {position} {speed}\n"),
+        HostCall::Plain(Call::Start { road, first }) => {
+            let figures = [road.surface, road.end, road.limit, *first];
+            format!("start{}\n", joined(&figures))
+        }
+        HostCall::Plain(Call::Enter(carrier)) => {
+            let figures = [carrier.number, carrier.position, carrier.speed];
+            format!("enter{}\n", joined(&figures))
+        }
         HostCall::Plain(Call::Leave { number }) => format!("leave {number}\n"),
         HostCall::Plain(Call::Read { number }) => format!("read {number}\n"),
         HostCall::Plain(Call::LaneText { room }) => format!("lane_text {room}\n"),
@@ -63,19 +59,13 @@ fn joined<T: ToString>(figures: &[T]) -> String {
 /// Reads a case; lines that begin with `#` are comments.
 pub fn parse(text: &str) -> Result<Case, String> {
     let mut case = Case {
-        first: Lane::default(),
+        first: [[0; 8]; 89],
         calls: Vec::new(),
     };
-    let mut place = 0;
     for line in text.lines().filter(|line| !line.starts_with('#')) {
         let mut words = line.split_whitespace();
         let read = match words.next().unwrap_or_default() {
-            "lane" => parse_lane(&mut words).map(|lane| case.first = lane),
-            "carrier" => parse_carrier(&mut words).and_then(|carrier| {
-                *case.first.carriers.get_mut(place)? = carrier;
-                place += 1;
-                Some(())
-            }),
+            "row" => parse_row(&mut words, &mut case.first),
             word => parse_call(word, &mut words, &mut case.calls),
         };
         if read.is_none() || words.next().is_some() {
@@ -93,24 +83,10 @@ fn figures<T: FromStr>(words: &mut SplitWhitespace) -> Option<Vec<T>> {
     words.map(|word| word.parse().ok()).collect()
 }
 
-fn parse_lane(words: &mut SplitWhitespace) -> Option<Lane> {
-    Some(Lane {
-        started: figure(words)?,
-        surface: figure(words)?,
-        end: figure(words)?,
-        limit: figure(words)?,
-        cycle: figure(words)?,
-        count: figure(words)?,
-        ..Lane::default()
-    })
-}
-
-fn parse_carrier(words: &mut SplitWhitespace) -> Option<Carrier> {
-    Some(Carrier {
-        number: figure(words)?,
-        position: figure(words)?,
-        speed: figure(words)?,
-    })
+fn parse_row(words: &mut SplitWhitespace, lane: &mut Words) -> Option<()> {
+    let place: usize = figure(words)?;
+    *lane.get_mut(place)? = figures(words)?.try_into().ok()?;
+    Some(())
 }
 
 /// Adds a call, or a list of wishes to the cycle that it follows.
@@ -131,16 +107,18 @@ fn parse_call(word: &str, words: &mut SplitWhitespace, calls: &mut Vec<HostCall>
 fn parse_plain(word: &str, words: &mut SplitWhitespace) -> Option<Call> {
     Some(match word {
         "start" => Call::Start {
-            surface: figure(words)?,
-            end: figure(words)?,
-            limit: figure(words)?,
-            cycle: figure(words)?,
+            road: Road {
+                surface: figure(words)?,
+                end: figure(words)?,
+                limit: figure(words)?,
+            },
+            first: figure(words)?,
         },
-        "enter" => Call::Enter {
+        "enter" => Call::Enter(Carrier {
             number: figure(words)?,
             position: figure(words)?,
             speed: figure(words)?,
-        },
+        }),
         "leave" => Call::Leave {
             number: figure(words)?,
         },

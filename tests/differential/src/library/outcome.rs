@@ -13,26 +13,31 @@ pub struct Outcome {
     pub values: Vec<u64>,
     /// The lent buffer between its guards.
     pub lent: Vec<u8>,
+    /// What counts of the lane after the call.
     pub lane: Lane,
 }
 
 impl Outcome {
-    /// Without its idle records, which only a refusal must keep.
-    fn settled(&self) -> Outcome {
-        let mut settled = self.clone();
-        let present = settled.lane.present().len();
-        settled.lane.carriers[present..].fill(Carrier::default());
-        settled
-    }
-
-    /// Whether `self` is as good an answer as the expected one.
-    pub fn agrees(&self, expected: &Outcome) -> bool {
-        if expected.no == 0 {
-            self.settled() == expected.settled()
-        } else {
-            self == expected
+    pub fn new(no: u32, values: &[u64], lane: &Lane) -> Outcome {
+        Outcome {
+            no,
+            values: values.to_vec(),
+            lent: Vec::new(),
+            lane: settled(lane),
         }
     }
+
+    /// With what a lent buffer holds after the call.
+    pub fn with_lent(self, lent: Vec<u8>) -> Outcome {
+        Outcome { lent, ..self }
+    }
+}
+
+/// The lane without what its idle records hold.
+pub fn settled(lane: &Lane) -> Lane {
+    let mut settled = *lane;
+    settled.carriers[lane.present().len()..].fill(Carrier::default());
+    settled
 }
 
 /// A buffer of `room` bytes between guards, all of them told apart by place.

@@ -1,13 +1,8 @@
 //! The reference's answers, in the shape of the product's.
 
-use super::host_call::{wish, HostCall};
+use super::host_call::HostCall;
 use super::outcome::{lent, within, Outcome};
-use lane_reference::{Answer, Call, FastLane, Lane, Refusal, Supervisor, Wish, PLACES};
-
-/// No wish at all: a sort that does not exist, or units out of 16 bits.
-const NO_WISH: u32 = 11;
-/// Fewer wishes than the count.
-const WISHES_MISSING: u32 = 12;
+use lane_reference::{Answer, Call, Cycled, FastLane, Lane, Refusal, Supervisor};
 
 pub fn outcome(lane: &Lane, call: &HostCall) -> Outcome {
     match call {
@@ -24,13 +19,8 @@ pub fn outcome(lane: &Lane, call: &HostCall) -> Outcome {
 fn answered(lane: &Lane, call: &Call) -> Outcome {
     let mut after = FastLane(*lane);
     match after.call(call) {
-        Ok(answer) => Outcome {
-            no: 0,
-            values: values(&answer),
-            lent: Vec::new(),
-            lane: after.0,
-        },
-        Err(refusal) => refused(lane, call, refusal.number()),
+        Ok(answer) => Outcome::new(0, &values(&answer), &after.0),
+        Err(refusal) => Outcome::new(refusal.number(), no_values(call), &after.0),
     }
 }
 
@@ -38,60 +28,37 @@ fn values(answer: &Answer) -> Vec<u64> {
     match answer {
         Answer::Started | Answer::Left => vec![],
         Answer::Entered(place) => vec![*place as u64],
-        Answer::Cycled(cycled) => vec![cycled.word, cycled.replaced.into(), cycled.gone.into()],
         Answer::Read(reading) => vec![reading.position.to_bits(), reading.speed.to_bits()],
+        Answer::Cycled(_) => unreachable!("a host's cycle is no plain call"),
         Answer::LaneText(_) => unreachable!("lane texts go into a lent buffer"),
     }
 }
 
-/// A refusal holds its number; every value is zero and the lane is as it was.
-fn refused(lane: &Lane, call: &Call, no: u32) -> Outcome {
-    let values = match call {
-        Call::Start { .. } | Call::Leave { .. } => 0,
-        Call::Enter { .. } | Call::LaneText { .. } => 1,
-        Call::Read { .. } => 2,
-        Call::Cycle { .. } => 3,
-    };
-    Outcome {
-        no,
-        values: vec![0; values],
-        lent: Vec::new(),
-        lane: *lane,
+/// The values of a refusal, all of them zero.
+fn no_values(call: &Call) -> &'static [u64] {
+    match call {
+        Call::Start { .. } | Call::Leave { .. } => &[],
+        Call::Enter { .. } | Call::LaneText { .. } => &[0],
+        Call::Read { .. } => &[0; 2],
+        Call::Cycle { .. } => &[0; 3],
     }
 }
 
 fn lane_text(lane: &Lane, room: usize) -> Outcome {
     let mut lent = lent(room);
     let listed = FastLane(*lane).lane_text(within(&mut lent));
-    Outcome {
-        no: listed.err().map_or(0, Refusal::number),
-        values: vec![listed.unwrap_or(0) as u64],
-        lent,
-        lane: *lane,
-    }
+    let no = listed.err().map_or(0, Refusal::number);
+    Outcome::new(no, &[listed.unwrap_or(0) as u64], lane).with_lent(lent)
 }
 
-/// The host's own refusals come before the lane is looked at: the wishes that a cycle of `count` can look at are made first.
 fn cycle(lane: &Lane, count: u64, sorts: &[u8], values: &[u32]) -> Outcome {
-    let mut call = Call::Cycle {
-        count,
-        wishes: Box::new([Wish::Hold; PLACES]),
-    };
-    let looked = count.min(PLACES as u64) as usize;
-    if sorts.len().min(values.len()) < looked {
-        return refused(lane, &call, WISHES_MISSING);
-    }
-    let made: Option<Vec<Wish>> = sorts
-        .iter()
-        .zip(values)
-        .take(looked)
-        .map(|(&sort, &value)| wish(sort, value))
-        .collect();
-    let Some(made) = made else {
-        return refused(lane, &call, NO_WISH);
-    };
-    if let Call::Cycle { wishes, .. } = &mut call {
-        wishes[..looked].copy_from_slice(&made);
-    }
-    answered(lane, &call)
+    let mut after = FastLane(*lane);
+    let cycled = after.cycle_given(count, sorts, values);
+    let no = cycled.err().map_or(0, Refusal::number);
+    let Cycled {
+        word,
+        replaced,
+        gone,
+    } = cycled.unwrap_or_default();
+    Outcome::new(no, &[word, replaced.into(), gone.into()], &after.0)
 }

@@ -1,12 +1,14 @@
 //! A program's text by the library's steps, block by block.
 
+use super::binding::Words;
 use super::host::{self, Step};
-use super::outcome::{lent, within};
+use super::outcome::{lent, settled, within};
+use super::words;
 use lane_reference::program::{run_on, LONGEST_INPUT};
 use lane_reference::text::block;
-use lane_reference::{FastLane, Lane, Supervisor};
+use lane_reference::{FastLane, Supervisor};
 
-/// More than the longest answer of a block.
+/// The least buffer that a step takes.
 const ROOM: usize = 4_096;
 
 /// How many steps were made, and what the last of them did wrong.
@@ -17,8 +19,9 @@ pub fn run(input: &[u8]) -> (u64, Result<(), String>) {
     }
     while at < input.len() {
         steps += 1;
-        match step(&lane, input, at) {
-            Ok(Some((after, next))) => (lane, at) = (after, next),
+        words::scramble(&mut lane, steps);
+        match step(&mut lane, input, at) {
+            Ok(Some(next)) => at = next,
             Ok(None) => break,
             Err(what) => return (steps, Err(format!("the step at {at}: {what}"))),
         }
@@ -26,28 +29,40 @@ pub fn run(input: &[u8]) -> (u64, Result<(), String>) {
     (steps, Ok(()))
 }
 
-/// The lane and the place after a step; nothing after a malformed block.
-fn step(lane: &Lane, input: &[u8], at: usize) -> Result<Option<(Lane, usize)>, String> {
+/// The place after a step; nothing after a malformed block.
+fn step(lane: &mut Words, input: &[u8], at: usize) -> Result<Option<usize>, String> {
+    short_buffer(lane, input, at)?;
+    let before = *lane;
     let mut out = lent(ROOM);
     let step = host::step(lane, input, at, within(&mut out));
     let Ok((call, rest)) = block(&input[at..]) else {
         printed(&step, out, b"no=8\n")?;
         require(step.stop, "a malformed block ends the program")?;
-        require(step.lane == *lane, "a malformed block changes nothing")?;
+        require(step.next == at, "a malformed block is passed over")?;
+        require(*lane == before, "a malformed block changes nothing")?;
         return Ok(None);
     };
     let next = input.len() - rest.len();
-    printed(&step, out, &run_on(FastLane(*lane), &input[at..next]))?;
+    let mut expected = FastLane(words::lane(&before));
+    printed(&step, out, &run_on(expected, &input[at..next]))?;
     require(step.next == next, "the next block begins elsewhere")?;
     // Whether the last block ends the program or its caller does is not said.
     require(!step.stop || rest.is_empty(), "the program ends too early")?;
-    let mut expected = FastLane(*lane);
-    let answer = expected.call(&call);
-    let kept = answer.is_ok() || step.lane == *lane;
-    require(kept, "a refused call changes nothing")?;
-    let same = state(&step.lane) == state(&expected.0);
+    let refused = expected.call(&call).is_err();
+    require(!refused || *lane == before, "a refused call changes a word")?;
+    let same = settled(&words::lane(lane)) == settled(&expected.0);
     require(same, "another lane")?;
-    Ok(Some((step.lane, next)))
+    Ok(Some(next))
+}
+
+/// With a buffer one byte too short nothing is run and nothing written.
+fn short_buffer(lane: &mut Words, input: &[u8], at: usize) -> Result<(), String> {
+    let before = *lane;
+    let mut out = lent(ROOM - 1);
+    let step = host::step(lane, input, at, within(&mut out));
+    let idle = step.stop && step.next == at && step.written == 0;
+    let kept = *lane == before && out == lent(ROOM - 1);
+    require(idle && kept, "a step with a short buffer does something")
 }
 
 /// The answer and nothing else is written.
@@ -64,11 +79,4 @@ fn printed(step: &Step, mut out: Vec<u8>, answer: &[u8]) -> Result<(), String> {
 
 fn require(condition: bool, otherwise: &str) -> Result<(), String> {
     condition.then_some(()).ok_or_else(|| otherwise.to_string())
-}
-
-/// All of a lane but its idle records.
-fn state(lane: &Lane) -> Lane {
-    let mut state = *lane;
-    state.carriers[lane.present().len()..].fill(Default::default());
-    state
 }

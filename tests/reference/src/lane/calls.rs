@@ -1,18 +1,19 @@
 //! The calls on a lane, each with its checks in the paper's order.
 
-use super::listing::lane_text;
+use super::listing::{lane_text, LONGEST_LANE_TEXT};
 use super::motion::drive;
-use super::{Cycled, Lane, Reading, ENDS, LIMITS, PLACES};
+use super::{Cycled, Lane, Reading, NUMBERS, PLACES};
 use crate::call::{Answer, Call};
 use crate::carrier::Carrier;
 use crate::headway::safe_behind;
 use crate::refusal::Refusal;
+use crate::road::Road;
 use crate::stopping::Stopping;
-use crate::surface;
+use crate::surface::Row;
 use crate::wish::Wish;
 
-/// The calls, over either way to reckon stopping distances. A refused call
-/// leaves the lane and any lent bytes as they were.
+/// The calls, over either way to reckon stopping distances. They change the
+/// lane in place; a refused one leaves it and any lent bytes as they were.
 pub trait Supervisor {
     type Stopping: Stopping;
 
@@ -20,49 +21,33 @@ pub trait Supervisor {
     fn lane_mut(&mut self) -> &mut Lane;
 
     /// Empties the lane, whatever state it is in, and begins anew.
-    fn start(&mut self, surface: u32, end: u32, limit: u32, cycle: u64) -> Result<(), Refusal> {
-        Refusal::SurfaceUnknown.when(surface::row(surface).is_none())?;
-        Refusal::EndOutOfRange.when(!ENDS.contains(&end))?;
-        Refusal::LimitOutOfRange.when(!LIMITS.contains(&limit))?;
+    fn start(&mut self, road: Road, first: u64) -> Result<(), Refusal> {
+        road.row()?;
         let lane = self.lane_mut();
-        *lane = Lane {
-            started: true,
-            surface,
-            end,
-            limit,
-            cycle,
-            count: 0,
-            carriers: lane.carriers,
-        };
+        lane.started = true;
+        lane.road = road;
+        lane.cycle = first;
+        lane.count = 0;
         Ok(())
     }
 
     /// Lets a carrier in and gives its place.
-    fn enter(&mut self, number: u16, position: u32, speed: u32) -> Result<usize, Refusal> {
-        let row = self.lane().sound_row::<Self::Stopping>()?;
+    fn enter(&mut self, newcomer: Carrier) -> Result<usize, Refusal> {
         let lane = self.lane_mut();
-        Refusal::NumberZero.when(number == 0)?;
-        Refusal::PositionPastEnd.when(position >= lane.end)?;
-        Refusal::SpeedAboveLimit.when(speed > lane.limit)?;
-        Refusal::LaneFull.when(lane.present().len() == PLACES)?;
-        Refusal::NumberPresent.when(lane.place_of(number).is_some())?;
-        let newcomer = Carrier {
-            number,
-            position,
-            speed,
-        };
-        let place = entry_place(lane.present(), position);
-        let (ahead, behind) = lane.present().split_at(place);
+        let row = lane.sound_row::<Self::Stopping>()?;
+        Refusal::NumberOutOfRange.when(!NUMBERS.contains(&newcomer.number))?;
+        Refusal::PositionPastEnd.when(newcomer.position >= lane.road.end)?;
+        Refusal::SpeedAboveLimit.when(newcomer.speed > lane.road.limit)?;
+        let present = lane.present();
+        let count = present.len();
+        Refusal::LaneFull.when(count == PLACES)?;
+        Refusal::NumberPresent.when(lane.place_of(newcomer.number).is_some())?;
+        let place = entry_place(present, newcomer.position);
         let safe = safe_behind::<Self::Stopping>;
-        let leader_near = ahead
-            .last()
-            .is_some_and(|&leader| !safe(row, newcomer, leader));
+        let leader_near = place > 0 && !safe(row, newcomer, present[place - 1]);
         Refusal::UnsafeBehindLeader.when(leader_near)?;
-        let follower_near = behind
-            .first()
-            .is_some_and(|&follower| !safe(row, follower, newcomer));
+        let follower_near = place < count && !safe(row, present[place], newcomer);
         Refusal::FollowerUnsafe.when(follower_near)?;
-        let count = lane.present().len();
         lane.carriers.copy_within(place..count, place + 1);
         lane.carriers[place] = newcomer;
         lane.count += 1;
@@ -70,7 +55,7 @@ pub trait Supervisor {
     }
 
     /// Takes a carrier out.
-    fn leave(&mut self, number: u16) -> Result<(), Refusal> {
+    fn leave(&mut self, number: u64) -> Result<(), Refusal> {
         let place = self.find(number)?;
         let lane = self.lane_mut();
         let count = lane.present().len();
@@ -81,22 +66,45 @@ pub trait Supervisor {
 
     /// Drives all carriers for one cycle; wishes past `count` are not looked at.
     fn cycle(&mut self, count: u64, wishes: &[Wish; PLACES]) -> Result<Cycled, Refusal> {
-        let row = self.lane().sound_row::<Self::Stopping>()?;
+        let row = self.ready(count)?;
         let lane = self.lane_mut();
-        Refusal::CountDiffers.when(count != lane.count)?;
-        Refusal::CyclesExhausted.when(lane.cycle == u64::MAX)?;
-        let wishes = &wishes[..lane.present().len()];
-        Refusal::FloatOutOfRange.when(!wishes.iter().all(|wish| wish.in_range()))?;
-        Ok(drive::<Self::Stopping>(lane, row, wishes))
+        let mut wished = [0; PLACES];
+        for (place, &carrier) in lane.present().iter().enumerate() {
+            wished[place] = wishes[place]
+                .trimmed(row, lane.road.limit, carrier)
+                .ok_or(Refusal::FloatOutOfRange)?;
+        }
+        Ok(drive::<Self::Stopping>(lane, row, &wished))
+    }
+
+    /// A cycle whose wishes are given by their sorts and values, as a host has
+    /// them: 12 and 11 come before 7.
+    fn cycle_given(&mut self, count: u64, sorts: &[u8], values: &[u32]) -> Result<Cycled, Refusal> {
+        let row = self.ready(count)?;
+        let lane = self.lane_mut();
+        let present = lane.present();
+        Refusal::WishesTooFew.when(sorts.len().min(values.len()) < present.len())?;
+        let mut wished = [0; PLACES];
+        let mut outside = false;
+        for (place, &carrier) in present.iter().enumerate() {
+            let wish = Wish::of_numbers(sorts[place], values[place]);
+            let wish = wish.ok_or(Refusal::WishUnknown)?;
+            match wish.trimmed(row, lane.road.limit, carrier) {
+                Some(acceleration) => wished[place] = acceleration,
+                None => outside = true,
+            }
+        }
+        Refusal::FloatOutOfRange.when(outside)?;
+        Ok(drive::<Self::Stopping>(lane, row, &wished))
     }
 
     /// Where a carrier is and how fast.
-    fn read(&self, number: u16) -> Result<Reading, Refusal> {
+    fn read(&self, number: u64) -> Result<Reading, Refusal> {
         let carrier = self.lane().carriers[self.find(number)?];
         // Both are below 2^32 and divided by a power of two: nothing is lost.
         Ok(Reading {
-            position: f64::from(carrier.position) / 2048.0,
-            speed: f64::from(carrier.speed) / 128.0,
+            position: f64::from(carrier.position as u32) / 2048.0,
+            speed: f64::from(carrier.speed as u32) / 128.0,
         })
     }
 
@@ -104,35 +112,36 @@ pub trait Supervisor {
     /// after the text keep what they held.
     fn lane_text(&self, buffer: &mut [u8]) -> Result<usize, Refusal> {
         self.lane().sound_row::<Self::Stopping>()?;
-        let text = lane_text(self.lane().present());
-        Refusal::BufferTooShort.when(text.len() > buffer.len())?;
-        buffer[..text.len()].copy_from_slice(text.as_bytes());
-        Ok(text.len())
+        if buffer.len() >= LONGEST_LANE_TEXT {
+            return Ok(lane_text(self.lane().present(), buffer));
+        }
+        let mut text = [0; LONGEST_LANE_TEXT];
+        let length = lane_text(self.lane().present(), &mut text);
+        let buffer = buffer.get_mut(..length).ok_or(Refusal::BufferTooShort)?;
+        buffer.copy_from_slice(&text[..length]);
+        Ok(length)
+    }
+
+    /// The checks of a cycle before its wishes are looked at.
+    fn ready(&self, count: u64) -> Result<&'static Row, Refusal> {
+        let row = self.lane().sound_row::<Self::Stopping>()?;
+        Refusal::CountDiffers.when(count != self.lane().count)?;
+        Refusal::CyclesExhausted.when(self.lane().cycle == u64::MAX)?;
+        Ok(row)
     }
 
     /// The place of a carrier, with the checks that leave and read share.
-    fn find(&self, number: u16) -> Result<usize, Refusal> {
+    fn find(&self, number: u64) -> Result<usize, Refusal> {
         self.lane().sound_row::<Self::Stopping>()?;
-        Refusal::NumberZero.when(number == 0)?;
+        Refusal::NumberOutOfRange.when(!NUMBERS.contains(&number))?;
         self.lane().place_of(number).ok_or(Refusal::NumberAbsent)
     }
 
     /// Runs a call given as a value.
     fn call(&mut self, call: &Call) -> Result<Answer, Refusal> {
         match *call {
-            Call::Start {
-                surface,
-                end,
-                limit,
-                cycle,
-            } => self
-                .start(surface, end, limit, cycle)
-                .map(|()| Answer::Started),
-            Call::Enter {
-                number,
-                position,
-                speed,
-            } => self.enter(number, position, speed).map(Answer::Entered),
+            Call::Start { road, first } => self.start(road, first).map(|()| Answer::Started),
+            Call::Enter(newcomer) => self.enter(newcomer).map(Answer::Entered),
             Call::Leave { number } => self.leave(number).map(|()| Answer::Left),
             Call::Cycle { count, ref wishes } => self.cycle(count, wishes).map(Answer::Cycled),
             Call::Read { number } => self.read(number).map(Answer::Read),
@@ -148,7 +157,7 @@ pub trait Supervisor {
 
 /// The walk goes front to back and ends at the first carrier whose position
 /// is lower, so a carrier at the same position counts as ahead.
-fn entry_place(present: &[Carrier], position: u32) -> usize {
+fn entry_place(present: &[Carrier], position: u64) -> usize {
     present
         .iter()
         .position(|carrier| carrier.position < position)

@@ -1,32 +1,31 @@
 //! One cycle of a sound lane: which wishes stand, and where they lead.
 
-use super::{Cycled, Lane};
-use crate::carrier::Carrier;
-use crate::headway::rests_behind;
+use super::{Cycled, Lane, PLACES};
+use crate::headway::rest;
 use crate::stopping::Stopping;
 use crate::surface::Row;
-use crate::wish::Wish;
 
-/// Drives every carrier; all of them are judged as at the cycle's start, and
-/// who is gone is looked at when all have moved.
-pub(super) fn drive<S: Stopping>(lane: &mut Lane, row: Row, wishes: &[Wish]) -> Cycled {
-    let before = lane.present().to_vec();
+/// Drives every carrier by its trimmed wish or by guaranteed braking. All are
+/// judged as at the cycle's start; whoever remains moves up to the front.
+pub(super) fn drive<S: Stopping>(lane: &mut Lane, row: &Row, wished: &[i32; PLACES]) -> Cycled {
+    let count = lane.present().len();
     let mut cycled = Cycled::default();
     let mut remaining = 0;
-    for (place, (&carrier, wish)) in before.iter().zip(wishes).enumerate() {
-        let wished = wish
-            .trimmed(row, lane.limit, carrier)
-            .expect("floats were checked before");
-        let leader = place.checked_sub(1).map(|ahead| before[ahead]);
+    // Where the carrier ahead would rest if it braked its hardest; nobody is
+    // ahead of the foremost.
+    let mut bound = u64::MAX;
+    for (place, &wished) in wished.iter().enumerate().take(count) {
+        let carrier = lane.carriers[place];
         let braking = carrier.braking(row.guaranteed_braking);
-        let stands = wished <= braking
-            || leader.is_none_or(|leader| rests_behind::<S>(row, carrier, wished, leader));
+        let mut moved = carrier.after(wished);
+        let stands = wished <= braking || rest::<S>(moved, row.guaranteed_braking) < bound;
         if !stands {
             cycled.word |= 1 << place;
             cycled.replaced += 1;
+            moved = carrier.after(braking);
         }
-        let moved: Carrier = carrier.after(if stands { wished } else { braking });
-        if moved.position < lane.end {
+        bound = rest::<S>(carrier, row.hardest_braking);
+        if moved.position < lane.road.end {
             lane.carriers[remaining] = moved;
             remaining += 1;
         } else {

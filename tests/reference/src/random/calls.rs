@@ -5,6 +5,7 @@ use super::wishes::wishes;
 use super::Random;
 use crate::call::Call;
 use crate::lane::{Lane, LONGEST_LANE_TEXT};
+use crate::road::Road;
 
 /// How likely each sort of call is: closing up at the back, any other entry,
 /// cycle, leave, read, lane text, start.
@@ -16,8 +17,8 @@ pub const EVEN: Weights = [10, 25, 30, 12, 8, 8, 3];
 /// A call on `lane`, which may be any lane.
 pub fn call(random: &mut Random, lane: &Lane, weights: &Weights) -> Call {
     match random.weighted(weights) {
-        0 => closing_up(random, lane),
-        1 => entry(random, lane),
+        0 => Call::Enter(closing_up(random, lane)),
+        1 => Call::Enter(entry(random, lane)),
         2 => cycle(random, lane),
         3 => Call::Leave {
             number: known_number(random, lane),
@@ -56,41 +57,49 @@ fn lane_text(random: &mut Random, lane: &Lane) -> Call {
 
 /// A start, with arguments outside their ranges now and then.
 pub fn start(random: &mut Random) -> Call {
-    let edge = |random: &mut Random, usual: u32, edges: &[u32]| {
+    let edge = |random: &mut Random, usual: u64, edges: &[u64]| {
         if random.chance(10) {
             random.pick(edges)
         } else {
             usual
         }
     };
-    let surface = random.below(8) as u32;
-    let (end, limit) = (any_end(random), any_limit(random));
+    let Road {
+        surface,
+        end,
+        limit,
+    } = any_road(random);
+    let most = u32::MAX.into();
     Call::Start {
-        surface: edge(random, surface, &[8, 9, u32::MAX]),
-        end: edge(random, end, &[0, (1 << 31) + 1, u32::MAX]),
-        limit: edge(random, limit, &[0, 8_193, u32::MAX]),
-        cycle: any_cycle(random),
+        road: Road {
+            surface: edge(random, surface, &[8, 9, most]),
+            end: edge(random, end, &[0, (1 << 31) + 1, most]),
+            limit: edge(random, limit, &[0, 8_193, most]),
+        },
+        first: any_cycle(random),
     }
 }
 
 /// A start that is not refused.
 pub fn valid_start(random: &mut Random) -> Call {
     Call::Start {
-        surface: random.below(8) as u32,
-        end: any_end(random),
-        limit: any_limit(random),
-        cycle: any_cycle(random),
+        road: any_road(random),
+        first: any_cycle(random),
     }
 }
 
-pub fn any_end(random: &mut Random) -> u32 {
+/// A road whose figures keep their ranges.
+pub fn any_road(random: &mut Random) -> Road {
+    let surface = random.below(8);
     let any = random.any_width(1 << 31);
-    random.pick(&[1 << 31, 1 << 31, (1 << 31) - 1, 1 << 24, 100_000, any, any])
-}
-
-pub fn any_limit(random: &mut Random) -> u32 {
+    let end = random.pick(&[1 << 31, 1 << 31, (1 << 31) - 1, 1 << 24, 100_000, any, any]);
     let any = random.any_width(8_192);
-    random.pick(&[8_192, 8_192, 8_191, 1_000, any, any])
+    let limit = random.pick(&[8_192, 8_192, 8_191, 1_000, any, any]);
+    Road {
+        surface,
+        end,
+        limit,
+    }
 }
 
 pub fn any_cycle(random: &mut Random) -> u64 {

@@ -1,8 +1,8 @@
-//! Entries that are just safe or just not.
+//! Entries that are just safe or just not. Their figures are such as a line of
+//! text can hold, whatever the lane is.
 
-use super::edges::{nearest_ahead, nearest_behind, row_of};
+use super::edges::{narrow, nearest_ahead, nearest_behind, row_of};
 use super::Random;
-use crate::call::Call;
 use crate::carrier::Carrier;
 use crate::lane::Lane;
 
@@ -10,7 +10,7 @@ use crate::lane::Lane;
 const OFFSETS: [i128; 8] = [0, 0, 0, 0, 1, 1, -1, 2];
 
 /// An entry of any sort, refused ones among them.
-pub fn entry(random: &mut Random, lane: &Lane) -> Call {
+pub fn entry(random: &mut Random, lane: &Lane) -> Carrier {
     let number = number(random, lane);
     let speed = speed(random, lane);
     let position = match random.below(10) {
@@ -18,9 +18,9 @@ pub fn entry(random: &mut Random, lane: &Lane) -> Call {
         4..=6 => ahead(random, lane, speed),
         7 => near_end(random, lane),
         8 => level(random, lane),
-        _ => random.below(u64::from(lane.end) + 2) as u32,
+        _ => narrow(random.below(narrow(lane.road.end) + 2)),
     };
-    Call::Enter {
+    Carrier {
         number,
         position,
         speed,
@@ -29,9 +29,9 @@ pub fn entry(random: &mut Random, lane: &Lane) -> Call {
 
 /// An entry at the back that succeeds, as tight as can be, unless the lane is
 /// full or has no room left.
-pub fn closing_up(random: &mut Random, lane: &Lane) -> Call {
+pub fn closing_up(random: &mut Random, lane: &Lane) -> Carrier {
     let number = unused_number(random, lane);
-    let mut speed = speed(random, lane).min(lane.limit);
+    let mut speed = speed(random, lane).min(lane.road.limit);
     let position = match lane.present().last() {
         Some(&rear) => {
             let row = row_of(lane);
@@ -41,17 +41,17 @@ pub fn closing_up(random: &mut Random, lane: &Lane) -> Call {
             let slack = random.pick(&[0, 0, 0, 1, 500]);
             to_position(nearest_behind(row, rear, speed) - slack)
         }
-        None => near_end(random, lane).min(lane.end.saturating_sub(1)),
+        None => near_end(random, lane).min(lane.road.end.saturating_sub(1)),
     };
-    Call::Enter {
+    Carrier {
         number,
         position,
         speed,
     }
 }
 
-fn to_position(position: i128) -> u32 {
-    position.clamp(0, u32::MAX.into()) as u32
+fn to_position(position: i128) -> u64 {
+    position.clamp(0, u32::MAX.into()) as u64
 }
 
 fn neighbour(random: &mut Random, lane: &Lane, usual: usize) -> Option<Carrier> {
@@ -61,7 +61,7 @@ fn neighbour(random: &mut Random, lane: &Lane, usual: usize) -> Option<Carrier> 
     present.get(place).copied()
 }
 
-fn behind(random: &mut Random, lane: &Lane, speed: u32) -> u32 {
+fn behind(random: &mut Random, lane: &Lane, speed: u64) -> u64 {
     let rear = lane.present().len().saturating_sub(1);
     match neighbour(random, lane, rear) {
         Some(leader) => {
@@ -72,7 +72,7 @@ fn behind(random: &mut Random, lane: &Lane, speed: u32) -> u32 {
     }
 }
 
-fn ahead(random: &mut Random, lane: &Lane, speed: u32) -> u32 {
+fn ahead(random: &mut Random, lane: &Lane, speed: u64) -> u64 {
     match neighbour(random, lane, 0) {
         Some(follower) => {
             let nearest = nearest_ahead(row_of(lane), follower, speed);
@@ -82,24 +82,26 @@ fn ahead(random: &mut Random, lane: &Lane, speed: u32) -> u32 {
     }
 }
 
-fn level(random: &mut Random, lane: &Lane) -> u32 {
-    neighbour(random, lane, 0).map_or(0, |carrier| carrier.position)
+fn level(random: &mut Random, lane: &Lane) -> u64 {
+    neighbour(random, lane, 0).map_or(0, |carrier| narrow(carrier.position))
 }
 
-fn near_end(random: &mut Random, lane: &Lane) -> u32 {
-    let end = lane.end;
-    let within = random.below(u64::from(end).max(1)) as u32;
-    let close = end.saturating_sub(random.below(20_000) as u32);
+fn near_end(random: &mut Random, lane: &Lane) -> u64 {
+    let end = narrow(lane.road.end);
+    let within = random.below(end.max(1));
+    let close = end.saturating_sub(random.below(20_000));
     let last = end.saturating_sub(1);
     random.pick(&[last, last.saturating_sub(1), end, within, close])
 }
 
 /// Speeds about the multiples of the braking rates and about the limit.
-pub fn speed(random: &mut Random, lane: &Lane) -> u32 {
+pub fn speed(random: &mut Random, lane: &Lane) -> u64 {
     let row = row_of(lane);
     let (b, hardest) = (row.guaranteed_braking, row.hardest_braking);
-    let times = 1 + random.below(9) as u32;
-    let within = random.below(u64::from(lane.limit) + 1) as u32;
+    let (b, hardest) = (u64::from(b), u64::from(hardest));
+    let limit = narrow(lane.road.limit);
+    let times = 1 + random.below(9);
+    let within = random.below(limit + 1);
     let edges = [
         0,
         1,
@@ -108,20 +110,20 @@ pub fn speed(random: &mut Random, lane: &Lane) -> u32 {
         times * b + 1,
         times * hardest - 1,
         times * hardest,
-        lane.limit,
-        lane.limit.saturating_sub(1),
+        limit,
+        limit.saturating_sub(1),
         within,
         within,
     ];
     if random.chance(2) {
-        random.pick(&[lane.limit.saturating_add(1), u32::MAX])
+        random.pick(&[narrow(limit + 1), u32::MAX.into()])
     } else {
-        random.pick(&edges).min(lane.limit)
+        random.pick(&edges).min(limit)
     }
 }
 
 /// The number of a carrier present, or now and then of none.
-pub fn known_number(random: &mut Random, lane: &Lane) -> u16 {
+pub fn known_number(random: &mut Random, lane: &Lane) -> u64 {
     match (neighbour(random, lane, 0), random.below(20)) {
         (_, 0) => 0,
         (_, 1) | (None, _) => unused_number(random, lane),
@@ -129,7 +131,7 @@ pub fn known_number(random: &mut Random, lane: &Lane) -> u16 {
     }
 }
 
-fn number(random: &mut Random, lane: &Lane) -> u16 {
+fn number(random: &mut Random, lane: &Lane) -> u64 {
     match random.below(30) {
         0 => 0,
         1 => known_number(random, lane),
@@ -137,12 +139,12 @@ fn number(random: &mut Random, lane: &Lane) -> u16 {
     }
 }
 
-fn unused_number(random: &mut Random, lane: &Lane) -> u16 {
+fn unused_number(random: &mut Random, lane: &Lane) -> u64 {
     loop {
         let number = match random.below(4) {
-            0 => u16::MAX - random.below(100) as u16,
-            1 => random.bits() as u16,
-            _ => 1 + random.below(200) as u16,
+            0 => 65_535 - random.below(100),
+            1 => random.below(65_536),
+            _ => 1 + random.below(200),
         };
         if number != 0 && lane.place_of(number).is_none() {
             return number;

@@ -1,12 +1,13 @@
 //! Lanes as a host may hand them in.
 
-use super::calls::{any_cycle, any_end, any_limit};
+use super::calls::{any_cycle, any_road};
 use super::edges::{nearest_behind, row_of};
 use super::entries::{closing_up, speed};
+use super::wide::{wide, wide_number};
 use super::Random;
-use crate::call::Call;
 use crate::carrier::Carrier;
 use crate::lane::{Lane, PLACES};
+use crate::road::Road;
 
 /// A lane without carriers that a history may begin with; its other fields
 /// are anything.
@@ -14,12 +15,15 @@ pub fn empty_lane(random: &mut Random) -> Lane {
     if random.chance(30) {
         return Lane::default();
     }
-    let any = random.bits() as u32;
+    let any = random.bits();
+    let narrow = any >> 32;
     Lane {
         started: random.chance(70),
-        surface: random.pick(&[0, 3, 6, 7, 7, 8, any]),
-        end: random.pick(&[0, 1, 20_000, 1 << 31, (1 << 31) + 1, any]),
-        limit: random.pick(&[0, 1, 2_000, 8_192, 8_193, any]),
+        road: Road {
+            surface: random.pick(&[0, 3, 6, 7, 7, 8, narrow, any]),
+            end: random.pick(&[0, 1, 20_000, 1 << 31, (1 << 31) + 1, narrow, any]),
+            limit: random.pick(&[0, 1, 2_000, 8_192, 8_193, narrow, any]),
+        },
         cycle: any_cycle(random),
         count: 0,
         carriers: leftovers(random),
@@ -29,20 +33,23 @@ pub fn empty_lane(random: &mut Random) -> Lane {
 /// What idle places may hold.
 fn leftovers(random: &mut Random) -> [Carrier; PLACES] {
     let left = Carrier {
-        number: random.bits() as u16,
-        position: random.bits() as u32,
-        speed: random.bits() as u32,
+        number: random.below(65_536),
+        position: random.bits() >> 32,
+        speed: random.bits() >> 32,
     };
-    [random.pick(&[Carrier::default(), left]); PLACES]
+    let any = Carrier {
+        number: random.bits(),
+        position: random.bits(),
+        speed: random.bits(),
+    };
+    [random.pick(&[Carrier::default(), left, any]); PLACES]
 }
 
 /// A started, sound lane: a tight platoon of up to 64.
 pub fn sound_lane(random: &mut Random) -> Lane {
     let mut lane = Lane {
         started: true,
-        surface: random.below(8) as u32,
-        end: any_end(random),
-        limit: any_limit(random),
+        road: any_road(random),
         cycle: any_cycle(random),
         count: 0,
         carriers: leftovers(random),
@@ -50,31 +57,14 @@ pub fn sound_lane(random: &mut Random) -> Lane {
     let any = random.index(PLACES + 1);
     let wanted = random.pick(&[0, 1, 2, PLACES, any]);
     while lane.present().len() < wanted && rear_position(&lane) != Some(0) {
-        append(random, &mut lane);
+        lane.carriers[lane.present().len()] = closing_up(random, &lane);
+        lane.count += 1;
     }
     lane
 }
 
-fn rear_position(lane: &Lane) -> Option<u32> {
+fn rear_position(lane: &Lane) -> Option<u64> {
     lane.present().last().map(|rear| rear.position)
-}
-
-/// Adds a carrier at the back, just as `closing_up` would have it.
-fn append(random: &mut Random, lane: &mut Lane) {
-    let Call::Enter {
-        number,
-        position,
-        speed,
-    } = closing_up(random, lane)
-    else {
-        unreachable!("closing up is an entry")
-    };
-    lane.carriers[lane.present().len()] = Carrier {
-        number,
-        position,
-        speed,
-    };
-    lane.count += 1;
 }
 
 /// A lane made unsound in one way, mostly by as little as can be.
@@ -83,32 +73,52 @@ pub fn unsound_lane(random: &mut Random) -> Lane {
     while lane.present().len() < 2 {
         lane = sound_lane(random);
     }
+    if random.chance(40) {
+        widen(random, &mut lane);
+        return lane;
+    }
     let place = random.index(lane.present().len());
     let follower = 1 + random.index(lane.present().len() - 1);
     let ahead = random.index(follower);
+    let most = u32::MAX.into();
     match random.below(11) {
         0 => lane.started = false,
-        1 => lane.surface = random.pick(&[8, 9, u32::MAX]),
-        2 => lane.end = random.pick(&[0, (1 << 31) + 1, u32::MAX]),
-        3 => lane.limit = random.pick(&[0, 8_193, u32::MAX]),
+        1 => lane.road.surface = random.pick(&[8, 9, most]),
+        2 => lane.road.end = random.pick(&[0, (1 << 31) + 1, most]),
+        3 => lane.road.limit = random.pick(&[0, 8_193, most]),
         4 => lane.count = random.pick(&[65, 128, 1 << 32, u64::MAX]),
-        5 => lane.carriers[place].number = 0,
+        5 => lane.carriers[place].number = random.pick(&[0, 65_536]),
         6 => lane.carriers[follower].number = lane.carriers[ahead].number,
-        7 => lane.carriers[place].speed = random.pick(&[lane.limit + 1, u32::MAX]),
-        8 => lane.end = lane.carriers[0].position.max(1) - random.below(2) as u32,
+        7 => lane.carriers[place].speed = random.pick(&[lane.road.limit + 1, most]),
+        8 => lane.road.end = lane.carriers[0].position.max(1) - random.below(2),
         9 => lane.carriers[follower].position = lane.carriers[ahead].position,
         _ => too_near(random, &mut lane, follower),
     }
     lane
 }
 
+/// Puts bits above its width into one field that counts.
+fn widen(random: &mut Random, lane: &mut Lane) {
+    let place = random.index(lane.present().len());
+    let carrier = &mut lane.carriers[place];
+    match random.below(7) {
+        0 => lane.road.surface = wide(random, lane.road.surface),
+        1 => lane.road.end = wide(random, lane.road.end),
+        2 => lane.road.limit = wide(random, lane.road.limit),
+        3 => lane.count = wide(random, lane.count),
+        4 => carrier.number = wide_number(random, carrier.number),
+        5 => carrier.position = wide(random, carrier.position),
+        _ => carrier.speed = wide(random, carrier.speed),
+    }
+}
+
 /// Moves the follower one past the nearest position that is safe.
 fn too_near(random: &mut Random, lane: &mut Lane, follower: usize) {
     let leader = lane.carriers[follower - 1];
-    let speed = speed(random, lane).min(lane.limit);
+    let speed = speed(random, lane).min(lane.road.limit);
     let nearest = nearest_behind(row_of(lane), leader, speed);
     // Where this speed finds no room at all, level with the leader will do.
-    let position = u32::try_from(nearest + 1).unwrap_or(leader.position);
+    let position = u64::try_from(nearest + 1).unwrap_or(leader.position);
     lane.carriers[follower].position = position;
     lane.carriers[follower].speed = speed;
 }

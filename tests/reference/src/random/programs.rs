@@ -11,20 +11,13 @@ use crate::wish::Wish;
 /// no text can hold.
 pub fn call_text(call: &Call) -> Option<String> {
     match call {
-        Call::Start {
-            surface,
-            end,
-            limit,
-            cycle,
-        } => Some(format!(
-            "call=start\nsurface={surface}\nend={end}\nlimit={limit}\ncycle={cycle}\n"
+        Call::Start { road, first } => Some(format!(
+            "call=start\nsurface={}\nend={}\nlimit={}\ncycle={first}\n",
+            road.surface, road.end, road.limit
         )),
-        Call::Enter {
-            number,
-            position,
-            speed,
-        } => Some(format!(
-            "call=enter\ncar={number}\nat={position}\nspeed={speed}\n"
+        Call::Enter(carrier) => Some(format!(
+            "call=enter\ncar={}\nat={}\nspeed={}\n",
+            carrier.number, carrier.position, carrier.speed
         )),
         Call::Leave { number } => Some(format!("call=leave\ncar={number}\n")),
         Call::Cycle { count, wishes } => {

@@ -82,9 +82,9 @@ fn wish(random: &mut Random, lane: &Lane, place: usize, mood: Mood) -> Wish {
     let present = lane.present();
     let carrier = present[place];
     let leader = place.checked_sub(1).map(|ahead| present[ahead]);
-    let (lowest, highest) = trimming_ends(row_of(lane), lane.limit, carrier.speed);
+    let (lowest, highest) = trimming_ends(row_of(lane), lane.road.limit, carrier.speed);
     let standing = leader.map_or(highest, |leader| {
-        greatest_standing(row_of(lane), lane.limit, carrier, leader)
+        greatest_standing(row_of(lane), lane.road.limit, carrier, leader)
     });
     let units = match mood {
         Mood::Mixed => return mixed(random, lane, carrier, standing),
@@ -99,8 +99,8 @@ fn wish(random: &mut Random, lane: &Lane, place: usize, mood: Mood) -> Wish {
 
 fn mixed(random: &mut Random, lane: &Lane, carrier: Carrier, standing: i64) -> Wish {
     let row = row_of(lane);
-    let (lowest, highest) = trimming_ends(row, lane.limit, carrier.speed);
-    let braking = -i64::from(row.guaranteed_braking.min(carrier.speed));
+    let (lowest, highest) = trimming_ends(row, lane.road.limit, carrier.speed);
+    let braking = i64::from(carrier.braking(row.guaranteed_braking));
     match random.below(10) {
         0 => Wish::Hold,
         1 => Wish::Units(random.bits() as i16),
@@ -116,7 +116,7 @@ fn mixed(random: &mut Random, lane: &Lane, carrier: Carrier, standing: i64) -> W
 
 /// `units` as a wish of any sort; a float may be one pattern up or down, which
 /// takes it to the next unit or leaves it, as its rounding down has it.
-fn expressed(random: &mut Random, units: i64, speed: u32) -> Wish {
+fn expressed(random: &mut Random, units: i64, speed: u64) -> Wish {
     let nudge = random.pick(&[0, 0, 1, u32::MAX]);
     let nudged = |value: f32| value.to_bits().wrapping_add(nudge);
     // Both quotients are exact: small whole numbers over powers of two.
@@ -124,7 +124,7 @@ fn expressed(random: &mut Random, units: i64, speed: u32) -> Wish {
         0 => Wish::Units(units.clamp(i16::MIN.into(), i16::MAX.into()) as i16),
         1 => Wish::Acceleration(nudged(units.clamp(-256, 256) as f32 / 16.0)),
         _ => {
-            let target = (i64::from(speed) + units).clamp(0, 8_192);
+            let target = speed.saturating_add_signed(units).min(8_192);
             Wish::TargetSpeed(nudged(target as f32 / 128.0))
         }
     }

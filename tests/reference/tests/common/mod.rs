@@ -1,10 +1,10 @@
 //! Short ways to lanes, wishes and texts.
 #![allow(dead_code)]
 
-use lane_reference::{Carrier, Lane, Supervisor, Wish, PLACES};
+use lane_reference::{Carrier, Lane, Road, Supervisor, Wish, PLACES};
 
 /// A carrier from number, position and speed.
-pub fn carrier(number: u16, position: u32, speed: u32) -> Carrier {
+pub fn carrier(number: u64, position: u64, speed: u64) -> Carrier {
     Carrier {
         number,
         position,
@@ -12,11 +12,21 @@ pub fn carrier(number: u16, position: u32, speed: u32) -> Carrier {
     }
 }
 
+/// A road from surface, end and limit.
+pub fn road(surface: u64, end: u64, limit: u64) -> Road {
+    Road {
+        surface,
+        end,
+        limit,
+    }
+}
+
 /// A started lane from cycle 0 on, with carriers given as number, position
 /// and speed, front to back, unchecked.
-pub fn lane(surface: u32, end: u32, limit: u32, carriers: &[(u16, u32, u32)]) -> Lane {
+pub fn lane(surface: u64, end: u64, limit: u64, carriers: &[(u64, u64, u64)]) -> Lane {
     let mut lane = Lane::default();
-    lane.start(surface, end, limit, 0).expect("a good start");
+    lane.start(road(surface, end, limit), 0)
+        .expect("a good start");
     for (place, &(number, position, speed)) in lane.carriers.iter_mut().zip(carriers) {
         *place = carrier(number, position, speed);
     }
@@ -25,7 +35,7 @@ pub fn lane(surface: u32, end: u32, limit: u32, carriers: &[(u16, u32, u32)]) ->
 }
 
 /// The paper's example lane, with carrier 7 standing at `position`.
-pub fn example_lane(position: u32) -> Lane {
+pub fn example_lane(position: u64) -> Lane {
     lane(0, 10_000, 1_000, &[(7, position, 0), (8, 700, 64)])
 }
 
@@ -38,6 +48,6 @@ pub fn wishes(first: &[Wish]) -> [Wish; PLACES] {
 
 /// A sound lane of 64 carriers at rest, numbered from 1 at the front.
 pub fn full_lane() -> Lane {
-    let carriers: Vec<(u16, u32, u32)> = (1..=64).map(|n| (n, 1_000 - u32::from(n), 0)).collect();
+    let carriers: Vec<(u64, u64, u64)> = (1..=64).map(|n| (n, 1_000 - n, 0)).collect();
     lane(0, 10_000, 1_000, &carriers)
 }

@@ -1,258 +1,201 @@
--- `console::blocks::block` meets its contract: the kinds of blocks are tried in the order of the definition.
+-- `console::blocks::block` meets its contract: the word of the `call=` line says which lines follow, and tells where the line ends.
 use borrow.Author.Needs.{needs}
-use mathlib.Core.Path.{_≡_, refl, sym, _∙_}
-use mathlib.Core.Bool.{true, false}
+use mathlib.Core.Path.{_≡_, refl}
 use mathlib.Core.List.{List}
-use Prim.Native.Nat.{ℕ, suc, _+_}
-use lib.ListN.{drop}
+use Prim.Native.Nat.{ℕ, suc, _+_, _≤_}
+use native.Mathlib.Omega.{arith}
+use lib.ListN.{length, drop}
 use Rattle.text.specs.Ascii.{ascii}
 use Rattle.text.specs.Fields.{lineLength}
-use Rattle.console.specs.Blocks.{parsed, malformed, show-block, afterLine, isLine, startLines, enterLines, leaveLines, cycleLines, blockIn}
-use Rattle.console.proofs.Lines.{first-read, all-read, read-as}
+use Rattle.text.proofs.ReadLaws.{value-after}
+use Rattle.console.specs.declared.blocks.Kind.{Kind}
+use Rattle.console.specs.declared.blocks.Kind.the-variants.{Show}
+use Rattle.console.specs.Blocks.{afterLine, linesOf, blockIn, Begun}
+use Rattle.console.proofs.Lines.{first-read, all-read, refuses-8, read-as, block-of, no-block}
 use Rattle.console.proofs.blocks.block.Statement.{statement}
 use Rattle.console.proofs.blocks.block.Tie as tie
 
-abbrev start : tie.After-whole-line → tie.Start
+abbrev start : tie.After-line-value → tie.Start
 start c = c .before .before .before .before
 
-abbrev t : tie.After-whole-line → List ℕ
-t c = let a = start c .args in drop (a .at) (a .input .now)
+-- the text from the block on
+abbrev rest : tie.After-line-value → List ℕ
+rest c = drop (start c .args .at) (start c .args .input .now)
 
--- the kinds tried before one
-abbrev back2 : tie.After-whole-line2 → tie.Else1
-back2 c = c .before .before
+-- the place after a line with a word, which is within the input
+ends : (c : tie.Else1) → let a = start (c .before) .args in let word = c .before .line-value .result .now in
+    (a .at + (5 + length word + 1) ≡ a .at + suc (lineLength (rest (c .before)))) × (a .at + suc (lineLength (rest (c .before))) ≤ length (a .input .now))
+ends c =
+    let a = start (c .before) .args in
+    value-after (ascii "call=") (a .input .now) (a .at) (c .before .line-value .ensures) (omega arith)
 
-abbrev back3 : tie.After-whole-line3 → tie.Else2
-back3 c = c .before .before
+block-is : (k : tie.After-kind-of) {kind : Kind} → k .kind-of .result ≡ kind → let t = rest (k .before .before) in blockIn t ≡ afterLine t (linesOf kind)
+block-is k e = block-of _ (k .before .before .line-value .ensures) (k .kind-of .ensures) e
 
-abbrev back4 : tie.After-whole-line4 → tie.Else3
-back4 c = c .before .before
+begun : (k : tie.After-kind-of) → let value = k .before .before in let a = start value .args in
+    Begun (a .input .now) (a .at) (a .at + (5 + length (value .line-value .result .now) + 1)) (a .out .now)
+begun k = record { room = start (k .before .before) .pre; after = ends (k .before) .0 }
 
-abbrev back5 : tie.After-whole-line5 → tie.Else4
-back5 c = c .before .before
+slice-aggregate-line-value : tie.Need-slice-aggregate-line-value
+slice-aggregate-line-value c = search needs
 
-abbrev first2 : tie.After-whole-line2 → tie.After-whole-line
-first2 c = back2 c .before
+line-value-requires : tie.Need-line-value-requires
+line-value-requires c κs = search needs
 
-abbrev first3 : tie.After-whole-line3 → tie.After-whole-line
-first3 c = first2 (back3 c .before)
-
-abbrev first4 : tie.After-whole-line4 → tie.After-whole-line
-first4 c = first3 (back4 c .before)
-
-abbrev first5 : tie.After-whole-line5 → tie.After-whole-line
-first5 c = first4 (back5 c .before)
-
-is-start : (c : tie.Then1) → isLine (ascii "call=start") (t (c .before)) ≡ true
-is-start c = sym (c .before .whole-line .ensures .0) ∙ c .if1 .taken
-
-not-start : (c : tie.Else1) → isLine (ascii "call=start") (t (c .before)) ≡ false
-not-start c = sym (c .before .whole-line .ensures .0) ∙ c .if1 .left
-
-after-start : (c : tie.Then1) → c .before .whole-line .result .next ≡ start (c .before) .args .at + suc (lineLength (t (c .before)))
-after-start c = rw (is-start c) at (c .before .whole-line .ensures .1)
-
-is-enter : (c : tie.Then2) → isLine (ascii "call=enter") (t (first2 (c .before))) ≡ true
-is-enter c = sym (c .before .whole-line2 .ensures .0) ∙ c .if2 .taken
-
-not-enter : (c : tie.Else2) → isLine (ascii "call=enter") (t (first2 (c .before))) ≡ false
-not-enter c = sym (c .before .whole-line2 .ensures .0) ∙ c .if2 .left
-
-after-enter : (c : tie.Then2) → c .before .whole-line2 .result .next ≡ start (first2 (c .before)) .args .at + suc (lineLength (t (first2 (c .before))))
-after-enter c = rw (is-enter c) at (c .before .whole-line2 .ensures .1)
-
-is-leave : (c : tie.Then3) → isLine (ascii "call=leave") (t (first3 (c .before))) ≡ true
-is-leave c = sym (c .before .whole-line3 .ensures .0) ∙ c .if3 .taken
-
-not-leave : (c : tie.Else3) → isLine (ascii "call=leave") (t (first3 (c .before))) ≡ false
-not-leave c = sym (c .before .whole-line3 .ensures .0) ∙ c .if3 .left
-
-after-leave : (c : tie.Then3) → c .before .whole-line3 .result .next ≡ start (first3 (c .before)) .args .at + suc (lineLength (t (first3 (c .before))))
-after-leave c = rw (is-leave c) at (c .before .whole-line3 .ensures .1)
-
-is-cycle : (c : tie.Then4) → isLine (ascii "call=cycle") (t (first4 (c .before))) ≡ true
-is-cycle c = sym (c .before .whole-line4 .ensures .0) ∙ c .if4 .taken
-
-not-cycle : (c : tie.Else4) → isLine (ascii "call=cycle") (t (first4 (c .before))) ≡ false
-not-cycle c = sym (c .before .whole-line4 .ensures .0) ∙ c .if4 .left
-
-after-cycle : (c : tie.Then4) → c .before .whole-line4 .result .next ≡ start (first4 (c .before)) .args .at + suc (lineLength (t (first4 (c .before))))
-after-cycle c = rw (is-cycle c) at (c .before .whole-line4 .ensures .1)
-
-is-show : (c : tie.Then5) → isLine (ascii "call=show") (t (first5 (c .before))) ≡ true
-is-show c = sym (c .before .whole-line5 .ensures .0) ∙ c .if5 .taken
-
-not-show : (c : tie.Else5) → isLine (ascii "call=show") (t (first5 (c .before))) ≡ false
-not-show c = sym (c .before .whole-line5 .ensures .0) ∙ c .if5 .left
-
-after-show : (c : tie.Then5) → c .before .whole-line5 .result .next ≡ start (first5 (c .before)) .args .at + suc (lineLength (t (first5 (c .before))))
-after-show c = rw (is-show c) at (c .before .whole-line5 .ensures .1)
-
-slice-aggregate-whole-line : tie.Need-slice-aggregate-whole-line
-slice-aggregate-whole-line c = search needs
-
-whole-line-requires : tie.Need-whole-line-requires
-whole-line-requires c κs = search needs
-
-start-block-requires : tie.Need-start-block-requires
-start-block-requires c κs = let then = c .before in (start (then .before) .pre, after-start then)
+refused-requires : tie.Need-refused-requires
+refused-requires c κs = search needs
 
 same-length : tie.Need-same-length
 same-length c = search needs
 
 returns : tie.Need-returns
-unfolding blockIn
 returns c =
     let told = c .before .before in
     let then = told .before .before in
-    let w = then .before in
-    let e : blockIn (t w) ≡ afterLine (t w) startLines = rw (is-start then) refl in
-    read-as e (told .start-block .ensures)
+    let value = then .before in
+    refuses-8 (no-block _ (value .line-value .ensures) (then .if1 .taken)) (start value .args .l .now) (told .refused .ensures)
 
-slice-aggregate-whole-line-2 : tie.Need-slice-aggregate-whole-line-2
-slice-aggregate-whole-line-2 c = search needs
+add-first : tie.Need-add-first
+add-first c = let e = ends c in omega arith
 
-whole-line-requires-2 : tie.Need-whole-line-requires-2
-whole-line-requires-2 c κs = search needs
+add-first-2 : tie.Need-add-first-2
+add-first-2 c = let e = ends c in omega arith
+
+add-first-3 : tie.Need-add-first-3
+add-first-3 c = let e = ends c in omega arith
+
+kind-of-requires : tie.Need-kind-of-requires
+kind-of-requires c κs = search needs
+
+enum-told : tie.Need-enum-told
+enum-told c = search needs
+
+start-block-requires : tie.Need-start-block-requires
+start-block-requires c κs = begun (c .before .before .before .before)
+
+enum-told-2 : tie.Need-enum-told-2
+enum-told-2 c = search needs
 
 enter-block-requires : tie.Need-enter-block-requires
-enter-block-requires c κs = let then = c .before in (start (first2 (then .before)) .pre, after-enter then)
+enter-block-requires c κs = begun (c .before .before .before .before)
+
+enum-told-3 : tie.Need-enum-told-3
+enum-told-3 c = search needs
+
+leave-block-requires : tie.Need-leave-block-requires
+leave-block-requires c κs = begun (c .before .before .before .before)
+
+enum-told-4 : tie.Need-enum-told-4
+enum-told-4 c = search needs
+
+cycle-block-requires : tie.Need-cycle-block-requires
+cycle-block-requires c κs = begun (c .before .before .before .before)
+
+enum-told-5 : tie.Need-enum-told-5
+enum-told-5 c = search needs
+
+run-show-requires : tie.Need-run-show-requires
+run-show-requires c κs = search needs
+
+enum-told-6 : tie.Need-enum-told-6
+enum-told-6 c = search needs
+
+refused-requires-2 : tie.Need-refused-requires-2
+refused-requires-2 c κs = search needs
 
 same-length-2 : tie.Need-same-length-2
 same-length-2 c = search needs
 
 returns-2 : tie.Need-returns-2
-unfolding blockIn
 returns-2 c =
     let told = c .before .before in
-    let then = told .before .before in
-    let e1 = back2 (then .before) in
-    let w = e1 .before in
-    let e : blockIn (t w) ≡ afterLine (t w) enterLines = rw (not-start e1, is-enter then) refl in
-    read-as e (told .enter-block .ensures)
-
-slice-aggregate-whole-line-3 : tie.Need-slice-aggregate-whole-line-3
-slice-aggregate-whole-line-3 c = search needs
-
-whole-line-requires-3 : tie.Need-whole-line-requires-3
-whole-line-requires-3 c κs = search needs
-
-leave-block-requires : tie.Need-leave-block-requires
-leave-block-requires c κs = let then = c .before in (start (first3 (then .before)) .pre, after-leave then)
+    let arm = told .before .before .before in
+    read-as (block-is (arm .before .before) (arm .enum-told .given .1)) (told .start-block .ensures)
 
 same-length-3 : tie.Need-same-length-3
 same-length-3 c = search needs
 
 returns-3 : tie.Need-returns-3
-unfolding blockIn
 returns-3 c =
     let told = c .before .before in
-    let then = told .before .before in
-    let e2 = back3 (then .before) in
-    let e1 = back2 (e2 .before) in
-    let w = e1 .before in
-    let e : blockIn (t w) ≡ afterLine (t w) leaveLines = rw (not-start e1, not-enter e2, is-leave then) refl in
-    read-as e (told .leave-block .ensures)
-
-slice-aggregate-whole-line-4 : tie.Need-slice-aggregate-whole-line-4
-slice-aggregate-whole-line-4 c = search needs
-
-whole-line-requires-4 : tie.Need-whole-line-requires-4
-whole-line-requires-4 c κs = search needs
-
-cycle-block-requires : tie.Need-cycle-block-requires
-cycle-block-requires c κs = let then = c .before in (start (first4 (then .before)) .pre, after-cycle then)
+    let arm = told .before .before .before in
+    read-as (block-is (arm .before .before) (arm .enum-told2 .given .1)) (told .enter-block .ensures)
 
 same-length-4 : tie.Need-same-length-4
 same-length-4 c = search needs
 
 returns-4 : tie.Need-returns-4
-unfolding blockIn
 returns-4 c =
     let told = c .before .before in
-    let then = told .before .before in
-    let e3 = back4 (then .before) in
-    let e2 = back3 (e3 .before) in
-    let e1 = back2 (e2 .before) in
-    let w = e1 .before in
-    let e : blockIn (t w) ≡ afterLine (t w) cycleLines = rw (not-start e1, not-enter e2, not-leave e3, is-cycle then) refl in
-    read-as e (told .cycle-block .ensures)
-
-slice-aggregate-whole-line-5 : tie.Need-slice-aggregate-whole-line-5
-slice-aggregate-whole-line-5 c = search needs
-
-whole-line-requires-5 : tie.Need-whole-line-requires-5
-whole-line-requires-5 c κs = search needs
-
-run-show-requires : tie.Need-run-show-requires
-run-show-requires c κs = search needs
+    let arm = told .before .before .before in
+    read-as (block-is (arm .before .before) (arm .enum-told3 .given .1)) (told .leave-block .ensures)
 
 same-length-5 : tie.Need-same-length-5
 same-length-5 c = search needs
 
 returns-5 : tie.Need-returns-5
-unfolding blockIn
 returns-5 c =
     let told = c .before .before in
-    let then = told .before .before in
-    let e4 = back5 (then .before) in
-    let e3 = back4 (e4 .before) in
-    let e2 = back3 (e3 .before) in
-    let e1 = back2 (e2 .before) in
-    let w = e1 .before in
-    let a = start w .args in
-    let e : blockIn (t w) ≡ afterLine (t w) (λ t. parsed show-block 0) = rw (not-start e1, not-enter e2, not-leave e3, not-cycle e4, is-show then) refl in
-    read-as e
-    (all-read (first-read (a .input .now) (a .at) (λ t. parsed show-block 0) (after-show then) .there refl) (told .run-show .ensures))
-
-refused-requires : tie.Need-refused-requires
-refused-requires c κs = search needs
+    let arm = told .before .before .before in
+    read-as (block-is (arm .before .before) (arm .enum-told4 .given .1)) (told .cycle-block .ensures)
 
 same-length-6 : tie.Need-same-length-6
 same-length-6 c = search needs
 
 returns-6 : tie.Need-returns-6
-unfolding blockIn
 returns-6 c =
     let told = c .before .before in
-    let else = told .before .before in
-    let e4 = back5 (else .before) in
-    let e3 = back4 (e4 .before) in
-    let e2 = back3 (e3 .before) in
-    let e1 = back2 (e2 .before) in
-    let w = e1 .before in
-    let e : blockIn (t w) ≡ malformed = rw (not-start e1, not-enter e2, not-leave e3, not-cycle e4, not-show else) refl in
-    read-as e (told .refused .ensures)
+    let arm = told .before .before .before in
+    let k = arm .before .before in
+    let a = start (k .before .before) .args in
+    read-as (block-is k (arm .enum-told5 .given .1))
+    (all-read (first-read (a .input .now) (a .at) (linesOf Show) (ends (k .before) .0) .there refl) (told .run-show .ensures))
+
+same-length-7 : tie.Need-same-length-7
+same-length-7 c = search needs
+
+returns-7 : tie.Need-returns-7
+unfolding afterLine
+returns-7 c =
+    let told = c .before .before in
+    let arm = told .before .before in
+    let k = arm .before .before in
+    refuses-8 (block-is k (arm .enum-told6 .given .1)) (start (k .before .before) .args .l .now) (told .refused2 .ensures)
 
 pub block-spec : {M : Type 1} → statement M
 block-spec =
     tie.close
     (tie.spec
-    slice-aggregate-whole-line
-    whole-line-requires
-    start-block-requires
+    slice-aggregate-line-value
+    line-value-requires
+    refused-requires
     same-length
     returns
-    slice-aggregate-whole-line-2
-    whole-line-requires-2
+    add-first
+    add-first-2
+    add-first-3
+    kind-of-requires
+    enum-told
+    start-block-requires
+    enum-told-2
     enter-block-requires
+    enum-told-3
+    leave-block-requires
+    enum-told-4
+    cycle-block-requires
+    enum-told-5
+    run-show-requires
+    enum-told-6
+    refused-requires-2
     same-length-2
     returns-2
-    slice-aggregate-whole-line-3
-    whole-line-requires-3
-    leave-block-requires
     same-length-3
     returns-3
-    slice-aggregate-whole-line-4
-    whole-line-requires-4
-    cycle-block-requires
     same-length-4
     returns-4
-    slice-aggregate-whole-line-5
-    whole-line-requires-5
-    run-show-requires
     same-length-5
     returns-5
-    refused-requires
     same-length-6
-    returns-6)
+    returns-6
+    same-length-7
+    returns-7)

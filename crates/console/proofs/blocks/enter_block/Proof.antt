@@ -3,12 +3,12 @@ use borrow.Author.Needs.{needs}
 use mathlib.Core.Bool.{_&&_}
 use mathlib.Core.List.{List}
 use Prim.Native.Nat.{ℕ}
-use native.Mathlib.Omega.{arith}
 use borrow.Author.Tests.{not-true, not-false}
 use lib.ListN.{drop}
-use Rattle.text.specs.Ascii.{ascii}
-use Rattle.console.specs.Blocks.{Parsed, parsed, afterLine, field, bits16, bits32, enter-block, enterLines}
-use Rattle.console.proofs.Lines.{Reached, first-read, field-read, field-most, all-read, read-as}
+use Rattle.lane.specs.Listing.{carKey, carMost, atKey, atMost, speedKey, speedMost}
+use Rattle.lane.specs.Call.{enter-call}
+use Rattle.console.specs.Blocks.{Parsed, parsed, afterLine, field, enterLines}
+use Rattle.console.proofs.Lines.{Reached, first-read, field-read, all-read, refuses-8}
 use Rattle.console.proofs.blocks.enter_block.Statement.{statement}
 use Rattle.console.proofs.blocks.enter_block.Tie as tie
 
@@ -23,13 +23,13 @@ abbrev start : tie.After-read-field3 → tie.Start
 start c = first (second c) .before .before .before .before
 
 abbrev speed-on : ℕ → ℕ → ℕ → List ℕ → Parsed
-speed-on car at speed t = parsed (enter-block car at speed) 0
+speed-on car at speed t = parsed (enter-call (record { number = car; position = at; speed = speed })) 0
 
 abbrev at-on : ℕ → ℕ → List ℕ → Parsed
-at-on car at t = field (ascii "speed=") bits32 t (speed-on car at)
+at-on car at t = field speedKey speedMost t (speed-on car at)
 
 abbrev car-on : ℕ → List ℕ → Parsed
-car-on car t = field (ascii "at=") bits32 t (at-on car)
+car-on car t = field atKey atMost t (at-on car)
 
 lines : (c : tie.After-read-field3) → let a = start c .args in
     Reached (a .input .now) (a .at) (c .read-field3 .result .next) (afterLine (drop (a .at) (a .input .now)) enterLines)
@@ -38,10 +38,10 @@ lines : (c : tie.After-read-field3) → let a = start c .args in
 unfolding enterLines
 lines c =
     let a = start c .args in
-    let block = first-read (a .input .now) (a .at) enterLines (start c .pre .1) in
-    let car = field-read (ascii "car=") bits16 car-on (first (second c) .read-field .ensures) block in
-    let at = field-read (ascii "at=") bits32 (at-on _) (second c .read-field2 .ensures) car in
-    field-read (ascii "speed=") bits32 (speed-on _ _) (c .read-field3 .ensures) at
+    let block = first-read (a .input .now) (a .at) enterLines (start c .pre .after) in
+    let car = field-read carKey carMost car-on (first (second c) .read-field .ensures) block in
+    let at = field-read atKey atMost (at-on _) (second c .read-field2 .ensures) car in
+    field-read speedKey speedMost (speed-on _ _) (c .read-field3 .ensures) at
 
 slice-aggregate-read-field : tie.Need-slice-aggregate-read-field
 slice-aggregate-read-field c = search needs
@@ -71,19 +71,11 @@ returns : tie.Need-returns
 returns c =
     let told = c .before .before in
     let then = told .before .before in
-    read-as (lines (then .before .before .before .before) .missing (not-true _ (then .if1 .taken))) (told .refused .ensures)
-
-cast-run-enter : tie.Need-cast-run-enter
-cast-run-enter c = omega (arith, field-most (ascii "car=") bits16 _ (first (second (c .before .before .before .before .before)) .read-field .ensures .1 .0))
-
-cast-run-enter-2 : tie.Need-cast-run-enter-2
-cast-run-enter-2 c = omega (arith, field-most (ascii "at=") bits32 _ (second (c .before .before .before .before .before .before) .read-field2 .ensures .1 .0))
-
-cast-run-enter-3 : tie.Need-cast-run-enter-3
-cast-run-enter-3 c = omega (arith, field-most (ascii "speed=") bits32 _ (c .before .before .before .before .before .before .before .read-field3 .ensures .1 .0))
+    let read = then .before .before .before .before in
+    refuses-8 (lines read .missing (not-true _ (then .if1 .taken))) (start read .args .l .now) (told .refused .ensures)
 
 run-enter-requires : tie.Need-run-enter-requires
-run-enter-requires c κs = start (c .before .before .before .before .before .before .before .before) .pre .0
+run-enter-requires c κs = search needs
 
 same-length-2 : tie.Need-same-length-2
 same-length-2 c = search needs
@@ -91,7 +83,7 @@ same-length-2 c = search needs
 returns-2 : tie.Need-returns-2
 returns-2 c =
     let run = c .before .before in
-    let else = run .before .before .before .before .before in
+    let else = run .before .before .before in
     all-read (lines (else .before .before .before .before) .there (not-false _ (else .if1 .left))) (run .run-enter .ensures)
 
 pub enter-block-spec : {M : Type 1} → statement M
@@ -107,9 +99,6 @@ enter-block-spec =
     refused-requires
     same-length
     returns
-    cast-run-enter
-    cast-run-enter-2
-    cast-run-enter-3
     run-enter-requires
     same-length-2
     returns-2)

@@ -2,12 +2,12 @@
 use borrow.Author.Needs.{needs}
 use mathlib.Core.List.{List}
 use Prim.Native.Nat.{ℕ}
-use native.Mathlib.Omega.{arith}
 use borrow.Author.Tests.{not-true, not-false}
 use lib.ListN.{drop}
-use Rattle.text.specs.Ascii.{ascii}
-use Rattle.console.specs.Blocks.{Parsed, afterLine, bits16, leave-block, leaveLines, parsed}
-use Rattle.console.proofs.Lines.{Reached, first-read, field-read, field-most, all-read, read-as}
+use Rattle.lane.specs.Listing.{carKey, carMost}
+use Rattle.lane.specs.Call.{leave-call}
+use Rattle.console.specs.Blocks.{Parsed, parsed, afterLine, leaveLines}
+use Rattle.console.proofs.Lines.{Reached, first-read, field-read, all-read, refuses-8}
 use Rattle.console.proofs.blocks.leave_block.Statement.{statement}
 use Rattle.console.proofs.blocks.leave_block.Tie as tie
 
@@ -15,7 +15,7 @@ abbrev start : tie.After-read-field → tie.Start
 start c = c .before .before .before .before
 
 abbrev car-on : ℕ → List ℕ → Parsed
-car-on car t = parsed (leave-block car) 0
+car-on car t = parsed (leave-call car) 0
 
 lines : (c : tie.After-read-field) → let a = start c .args in
     Reached (a .input .now) (a .at) (c .read-field .result .next) (afterLine (drop (a .at) (a .input .now)) leaveLines)
@@ -23,7 +23,7 @@ lines : (c : tie.After-read-field) → let a = start c .args in
 unfolding leaveLines
 lines c =
     let a = start c .args in
-    field-read (ascii "car=") bits16 car-on (c .read-field .ensures) (first-read (a .input .now) (a .at) leaveLines (start c .pre .1))
+    field-read carKey carMost car-on (c .read-field .ensures) (first-read (a .input .now) (a .at) leaveLines (start c .pre .after))
 
 slice-aggregate-read-field : tie.Need-slice-aggregate-read-field
 slice-aggregate-read-field c = search needs
@@ -41,10 +41,8 @@ returns : tie.Need-returns
 returns c =
     let told = c .before .before in
     let then = told .before .before in
-    read-as (lines (then .before .before) .missing (not-true _ (then .if1 .taken))) (told .refused .ensures)
-
-cast-run-leave : tie.Need-cast-run-leave
-cast-run-leave c = omega (arith, field-most (ascii "car=") bits16 _ (c .before .before .before .read-field .ensures .1 .0))
+    let read = then .before .before in
+    refuses-8 (lines read .missing (not-true _ (then .if1 .taken))) (start read .args .l .now) (told .refused .ensures)
 
 run-leave-requires : tie.Need-run-leave-requires
 run-leave-requires c κs = search needs
@@ -67,7 +65,6 @@ leave-block-spec =
     refused-requires
     same-length
     returns
-    cast-run-leave
     run-leave-requires
     same-length-2
     returns-2)

@@ -3,12 +3,12 @@ use borrow.Author.Needs.{needs}
 use mathlib.Core.Bool.{_&&_}
 use mathlib.Core.List.{List}
 use Prim.Native.Nat.{ℕ}
-use native.Mathlib.Omega.{arith}
 use borrow.Author.Tests.{not-true, not-false}
 use lib.ListN.{drop}
 use Rattle.text.specs.Ascii.{ascii}
-use Rattle.console.specs.Blocks.{Parsed, parsed, afterLine, field, bits32, bits64, start-block, startLines}
-use Rattle.console.proofs.Lines.{Reached, first-read, field-read, field-most, all-read, read-as}
+use Rattle.lane.specs.Call.{start-call}
+use Rattle.console.specs.Blocks.{Parsed, parsed, afterLine, field, bits32, bits64, startLines}
+use Rattle.console.proofs.Lines.{Reached, first-read, field-read, all-read, refuses-8}
 use Rattle.console.proofs.blocks.start_block.Statement.{statement}
 use Rattle.console.proofs.blocks.start_block.Tie as tie
 
@@ -26,7 +26,7 @@ abbrev start : tie.After-read-field4 → tie.Start
 start c = first (second (third c)) .before .before .before .before
 
 abbrev cycle-on : ℕ → ℕ → ℕ → ℕ → List ℕ → Parsed
-cycle-on surface end limit cycle t = parsed (start-block surface end limit cycle) 0
+cycle-on surface end limit cycle t = parsed (start-call (record { surface = surface; end = end; limit = limit }) cycle) 0
 
 abbrev limit-on : ℕ → ℕ → ℕ → List ℕ → Parsed
 limit-on surface end limit t = field (ascii "cycle=") bits64 t (cycle-on surface end limit)
@@ -44,7 +44,7 @@ lines : (c : tie.After-read-field4) → let a = start c .args in let s = first (
 unfolding startLines
 lines c =
     let a = start c .args in
-    let block = first-read (a .input .now) (a .at) startLines (start c .pre .1) in
+    let block = first-read (a .input .now) (a .at) startLines (start c .pre .after) in
     let surface = field-read (ascii "surface=") bits32 surface-on (first (second (third c)) .read-field .ensures) block in
     let end = field-read (ascii "end=") bits32 (end-on _) (second (third c) .read-field2 .ensures) surface in
     let limit = field-read (ascii "limit=") bits32 (limit-on _ _) (third c .read-field3 .ensures) end in
@@ -75,7 +75,7 @@ read-field-requires-4 : tie.Need-read-field-requires-4
 read-field-requires-4 c κs = search needs
 
 refused-requires : tie.Need-refused-requires
-refused-requires c κs = start (c .before .before .before .before .before .before) .pre .0
+refused-requires c κs = start (c .before .before .before .before .before .before) .pre .room
 
 same-length : tie.Need-same-length
 same-length c = search needs
@@ -84,25 +84,11 @@ returns : tie.Need-returns
 returns c =
     let told = c .before .before in
     let then = told .before .before in
-    read-as (lines (then .before .before .before .before .before) .missing (not-true _ (then .if1 .taken))) (told .refused .ensures)
-
-cast-run-start : tie.Need-cast-run-start
-cast-run-start c =
-    let last = c .before .before .before .before .before .before in
-    omega (arith, field-most (ascii "surface=") bits32 _ (first (second (third last)) .read-field .ensures .1 .0))
-
-cast-run-start-2 : tie.Need-cast-run-start-2
-cast-run-start-2 c =
-    let last = c .before .before .before .before .before .before .before in
-    omega (arith, field-most (ascii "end=") bits32 _ (second (third last) .read-field2 .ensures .1 .0))
-
-cast-run-start-3 : tie.Need-cast-run-start-3
-cast-run-start-3 c =
-    let last = c .before .before .before .before .before .before .before .before in
-    omega (arith, field-most (ascii "limit=") bits32 _ (third last .read-field3 .ensures .1 .0))
+    let read = then .before .before .before .before .before in
+    refuses-8 (lines read .missing (not-true _ (then .if1 .taken))) (start read .args .l .now) (told .refused .ensures)
 
 run-start-requires : tie.Need-run-start-requires
-run-start-requires c κs = start (c .before .before .before .before .before .before .before .before .before) .pre .0
+run-start-requires c κs = start (c .before .before .before .before .before .before .before) .pre .room
 
 same-length-2 : tie.Need-same-length-2
 same-length-2 c = search needs
@@ -110,7 +96,7 @@ same-length-2 c = search needs
 returns-2 : tie.Need-returns-2
 returns-2 c =
     let run = c .before .before in
-    let else = run .before .before .before .before .before in
+    let else = run .before .before .before in
     all-read (lines (else .before .before .before .before .before) .there (not-false _ (else .if1 .left))) (run .run-start .ensures)
 
 pub start-block-spec : {M : Type 1} → statement M
@@ -128,9 +114,6 @@ start-block-spec =
     refused-requires
     same-length
     returns
-    cast-run-start
-    cast-run-start-2
-    cast-run-start-3
     run-start-requires
     same-length-2
     returns-2)

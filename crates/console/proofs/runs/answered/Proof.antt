@@ -3,7 +3,7 @@ use borrow.Author.Needs.{needs}
 use borrow.Author.Tests.{ne-eqb}
 use mathlib.Core.Bool.{false}
 use native.Mathlib.Omega.{arith}
-use Rattle.console.proofs.Printing.{gives-put}
+use Rattle.console.proofs.Printing.{prints-put}
 use Rattle.console.proofs.runs.answered.Statement.{statement}
 use Rattle.console.proofs.runs.answered.Tie as tie
 
@@ -30,15 +30,9 @@ returns-2 c =
     let put = c .before .before in
     let else = put .before .before in
     let a = else .before .before .before .args in
-    rw (else .if1 .left) (gives-put (a .l) (a .next) false (a .line .now) (omega arith) (put .put-bytes .ensures))
+    rw (else .if1 .left) (prints-put (a .next) false (a .line .now) (omega arith) (put .put-bytes .ensures))
 
 pub answered-spec : {M : Type 1} → statement M
 answered-spec =
     tie.close
-    (tie.spec
-    refused-requires
-    same-length
-    returns
-    put-bytes-requires
-    same-length-2
-    returns-2)
+    (tie.spec refused-requires same-length returns put-bytes-requires same-length-2 returns-2)

@@ -5,7 +5,7 @@ use native.Mathlib.Omega.{arith}
 use lib.ListN.{length}
 use Rattle.text.specs.Ascii.{ascii}
 use Rattle.console.specs.Output.{refusal}
-use Rattle.console.proofs.Printing.{short-line, gives-put}
+use Rattle.console.proofs.Printing.{short-line, prints-put}
 use Rattle.console.proofs.runs.refused.Statement.{statement}
 use Rattle.console.proofs.runs.refused.Tie as tie
 
@@ -21,7 +21,7 @@ returns c =
     let put = c .before .before in
     let a = put .before .before .before .args in
     let room : length (refusal (a .no)) ≤ length (a .out .now) = omega (arith, short-line (ascii "no=") (a .no) (omega arith) (omega arith)) in
-    gives-put (a .l) (a .next) (a .stop) (refusal (a .no)) room (put .put-refusal .ensures)
+    prints-put (a .next) (a .stop) (refusal (a .no)) room (put .put-refusal .ensures)
 
 pub refused-spec : {M : Type 1} → statement M
 refused-spec = tie.close (tie.spec put-refusal-requires same-length returns)

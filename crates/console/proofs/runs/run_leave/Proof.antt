@@ -1,9 +1,8 @@
 -- `console::runs::run_leave` meets its contract: a refused leave prints its number, else the line `ok=leave`.
 use borrow.Author.Needs.{needs}
-use mathlib.Core.Path.{refl}
-use Rattle.console.specs.Blocks.{leave-block}
-use Rattle.console.specs.Output.{blockNo, accepted, printed, stateAfter}
-use Rattle.console.proofs.Printing.{run-answered}
+use Rattle.lane.specs.Call.{leave-call}
+use Rattle.console.specs.Output.{printed}
+use Rattle.console.proofs.Printing.{refused-keeps, run-prints}
 use Rattle.console.proofs.runs.run_leave.Statement.{statement}
 use Rattle.console.proofs.runs.run_leave.Tie as tie
 
@@ -20,20 +19,15 @@ same-length : tie.Need-same-length
 same-length c = search needs
 
 returns : tie.Need-returns
-unfolding blockNo accepted printed stateAfter
+unfolding printed
 returns c =
     let told = c .before .before in
     let call = told .before .before .before in
-    let a = call .before .before .args in
-    let e = call .leave .ensures in
-    run-answered (a .l) (leave-block (a .car)) (e .number) (e .state) (e .refused) _ (rw (← e .number) refl) (told .answered .ensures)
+    let a = call .before .before .before .args in
+    let x = leave-call (a .number) in
+    run-prints x (call .leave .ensures) (refused-keeps x (call .leave .ensures)) (told .answered .ensures)
 
 pub run-leave-spec : {M : Type 1} → statement M
 run-leave-spec =
     tie.close
-    (tie.spec
-    leave-requires
-    slice-aggregate-answered
-    answered-requires
-    same-length
-    returns)
+    (tie.spec leave-requires slice-aggregate-answered answered-requires same-length returns)

@@ -1,9 +1,8 @@
 -- `console::runs::run_start` meets its contract: a refused start prints its number, else the line `ok=start`.
 use borrow.Author.Needs.{needs}
-use mathlib.Core.Path.{refl}
-use Rattle.console.specs.Blocks.{start-block}
-use Rattle.console.specs.Output.{blockNo, accepted, printed, stateAfter}
-use Rattle.console.proofs.Printing.{run-answered}
+use Rattle.lane.specs.Call.{start-call}
+use Rattle.console.specs.Output.{printed}
+use Rattle.console.proofs.Printing.{refused-keeps, run-prints}
 use Rattle.console.proofs.runs.run_start.Statement.{statement}
 use Rattle.console.proofs.runs.run_start.Tie as tie
 
@@ -20,20 +19,15 @@ same-length : tie.Need-same-length
 same-length c = search needs
 
 returns : tie.Need-returns
-unfolding blockNo accepted printed stateAfter
+unfolding printed
 returns c =
     let told = c .before .before in
     let call = told .before .before .before in
-    let a = call .before .before .args in
-    let e = call .start .ensures in
-    run-answered (a .l) (start-block (a .surface) (a .end) (a .limit) (a .cycle)) (e .number) (e .state) (e .refused) _ (rw (← e .number) refl) (told .answered .ensures)
+    let a = call .before .before .before .args in
+    let x = start-call (a .road) (a .first) in
+    run-prints x (call .start .ensures) (refused-keeps x (call .start .ensures)) (told .answered .ensures)
 
 pub run-start-spec : {M : Type 1} → statement M
 run-start-spec =
     tie.close
-    (tie.spec
-    start-requires
-    slice-aggregate-answered
-    answered-requires
-    same-length
-    returns)
+    (tie.spec start-requires slice-aggregate-answered answered-requires same-length returns)

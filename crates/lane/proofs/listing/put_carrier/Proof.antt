@@ -1,14 +1,11 @@
 -- `lane::listing::put_carrier` meets its contract: the three lines, put one after the other, are the carrier's text.
 use borrow.Author.Needs.{needs}
-use Rattle.lane.proofs.Texts.{put-carrier}
+use Rattle.lane.proofs.calls.Texts.{put-carrier}
 use Rattle.lane.proofs.listing.put_carrier.Statement.{statement}
 use Rattle.lane.proofs.listing.put_carrier.Tie as tie
 
 slice-aggregate-put-decimal-line : tie.Need-slice-aggregate-put-decimal-line
 slice-aggregate-put-decimal-line c = search needs
-
-cast-put-decimal-line : tie.Need-cast-put-decimal-line
-cast-put-decimal-line c = search needs
 
 put-decimal-line-requires : tie.Need-put-decimal-line-requires
 put-decimal-line-requires c κs = search needs
@@ -16,17 +13,11 @@ put-decimal-line-requires c κs = search needs
 slice-aggregate-put-decimal-line-2 : tie.Need-slice-aggregate-put-decimal-line-2
 slice-aggregate-put-decimal-line-2 c = search needs
 
-cast-put-decimal-line-2 : tie.Need-cast-put-decimal-line-2
-cast-put-decimal-line-2 c = search needs
-
 put-decimal-line-requires-2 : tie.Need-put-decimal-line-requires-2
 put-decimal-line-requires-2 c κs = search needs
 
 slice-aggregate-put-decimal-line-3 : tie.Need-slice-aggregate-put-decimal-line-3
 slice-aggregate-put-decimal-line-3 c = search needs
-
-cast-put-decimal-line-3 : tie.Need-cast-put-decimal-line-3
-cast-put-decimal-line-3 c = search needs
 
 put-decimal-line-requires-3 : tie.Need-put-decimal-line-requires-3
 put-decimal-line-requires-3 c κs = search needs
@@ -37,9 +28,9 @@ same-length c = search needs
 returns : tie.Need-returns
 returns c =
     let speed = c .before .before in
-    let position = speed .before .before .before .before .before .before in
-    let number = position .before .before .before .before .before .before in
-    let start = number .before .before .before .before .before in
+    let position = speed .before .before .before .before .before in
+    let number = position .before .before .before .before .before in
+    let start = number .before .before .before .before in
     put-carrier (start .args .at) (start .args .c) (start .args .out .now) (start .pre) (number .put-decimal-line .ensures) (position .put-decimal-line2 .ensures) (speed .put-decimal-line3 .ensures)
 
 pub put-carrier-spec : {M : Type 1} → statement M
@@ -47,13 +38,10 @@ put-carrier-spec =
     tie.close
     (tie.spec
     slice-aggregate-put-decimal-line
-    cast-put-decimal-line
     put-decimal-line-requires
     slice-aggregate-put-decimal-line-2
-    cast-put-decimal-line-2
     put-decimal-line-requires-2
     slice-aggregate-put-decimal-line-3
-    cast-put-decimal-line-3
     put-decimal-line-requires-3
     same-length
     returns)

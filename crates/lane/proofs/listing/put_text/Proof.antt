@@ -1,24 +1,50 @@
 -- `lane::listing::put_text` meets its contract: the carriers still to see, put after those seen, give the whole text.
 use borrow.Author.Needs.{needs}
-use mathlib.Core.Path.{_≡_, _∙_}
-use Prim.Native.Nat.{_-_, _≤_}
+use mathlib.Core.Path.{_≡_, ap, _∙_}
+use mathlib.Core.List.{List}
+use Prim.Native.Nat.{ℕ, _-_, _≤_}
 use native.Mathlib.Omega.{arith}
 use lib.ListN.{length}
+use Rattle.text.specs.Lines.{written}
+use Rattle.lane.specs.declared.Carrier.{Carrier}
+use Rattle.lane.specs.declared.layout.Figures.{Figures}
+use Rattle.lane.specs.Layout.{recordsIn, stateWith, stateOf}
 use Rattle.lane.specs.Calls.{none}
-use Rattle.lane.proofs.Lists.{length-mapped}
-use Rattle.lane.proofs.Texts.{Writing, length-next, writing-start, writing-next, writing-end}
+use Rattle.lane.specs.Listing.{laneText}
+use Rattle.lane.proofs.calls.Texts.{Writing, length-next, writing-start, writing-next, writing-end}
 use Rattle.lane.proofs.listing.put_text.Statement.{statement}
 use Rattle.lane.proofs.listing.put_text.Tie as tie
 
 abbrev Inv-loop : tie.InvT-loop
-Inv-loop out₀ l at₀ i₀ out at i =
-    (length (l .carriers) ≡ 64) × ((i ≤ l .count) × Writing (l .carriers) (l .count) at₀ out₀ out at i)
+Inv-loop l out₀ f at₀ i₀ out at i =
+    (length (recordsIn l) ≡ 64) × ((f .count ≤ 64) × ((i ≤ f .count) × Writing (recordsIn l) (f .count) at₀ out₀ out at i))
 
 abbrev μ-loop : tie.MeasureT-loop
-μ-loop out₀ l at₀ i₀ out at i = l .count - i
+μ-loop l out₀ f at₀ i₀ out at i = f .count - i
 
-abbrev start : tie.After-put-decimal-line Inv-loop μ-loop → tie.Start Inv-loop μ-loop
-start c = c .before .before .before .before
+-- what is known once the first line is put
+module _ (c : tie.After-put-decimal-line Inv-loop μ-loop) where
+  abbrev figures : tie.After-figures-of Inv-loop μ-loop
+  figures = c .before .before .before
+
+  abbrev start : tie.Start Inv-loop μ-loop
+  start = figures .before .before
+
+  abbrev f : Figures
+  f = figures .figures-of .result
+
+  abbrev records : List Carrier
+  records = recordsIn (start .args .l .now)
+
+  -- the figures that the code reads are the state's
+  shows : laneText (stateWith f records) ≡ laneText (stateOf (start .args .l .now))
+  shows = ap (λ (x : Figures). laneText (stateWith x records)) (figures .figures-of .ensures .0)
+
+  room : length (laneText (stateWith f records)) ≤ length (start .args .out .now)
+  room = omega (arith, ap length shows, start .pre .1)
+
+figures-of-requires : tie.Need-figures-of-requires Inv-loop μ-loop
+figures-of-requires c κs = search needs
 
 slice-aggregate-put-decimal-line : tie.Need-slice-aggregate-put-decimal-line Inv-loop μ-loop
 slice-aggregate-put-decimal-line c = search needs
@@ -29,20 +55,18 @@ put-decimal-line-requires c κs = search needs
 loop-holds : tie.Need-loop-holds Inv-loop μ-loop
 loop-holds c =
     let first = c .before .before in
-    let a = start first .args in
-    (search (needs, length-mapped), (search needs, writing-start (a .t2 .carriers) (a .t2 .count) (a .out .now) (start first .pre .1) (first .put-decimal-line .ensures)))
+    let few : f first .count ≤ 64 = rw (figures first .figures-of .ensures .0) (start first .pre .0) in
+    (figures first .figures-of .ensures .1, (few, (search needs, writing-start (f first) (records first) (start first .args .out .now) (room first) (first .put-decimal-line .ensures))))
 
-mul-c : tie.Need-mul-c Inv-loop μ-loop
-mul-c c = search needs
-
-element-copy-out-c : tie.Need-element-copy-out-c Inv-loop μ-loop
-element-copy-out-c c = search needs
+carrier-at-requires : tie.Need-carrier-at-requires Inv-loop μ-loop
+carrier-at-requires c κs = search needs
 
 put-carrier-requires : tie.Need-put-carrier-requires Inv-loop μ-loop
 put-carrier-requires c κs =
-    let at = c .before .before .before in
-    let a = start (at .before .before .before) .args in
-    omega (arith, at .loop .inv .1 .1 .room, length-next none (a .t2 .carriers) (at .loop .i) (a .t2 .count) (omega arith) (omega arith))
+    let at = c .before .before .before .before in
+    let first = at .before .before .before in
+    let next = length-next none (records first) (at .loop .i) (f first .count) (omega arith) (omega arith) in
+    rw (c .carrier-at .ensures) (omega (arith, at .loop .inv .1 .1 .1 .room))
 
 add-i : tie.Need-add-i Inv-loop μ-loop
 add-i c = search needs
@@ -53,23 +77,29 @@ loop-less c = search needs
 loop-again : tie.Need-loop-again Inv-loop μ-loop
 loop-again c =
     let put = c .before .before in
-    let at = put .before .before .before .before in (
-      search needs,
+    let at = put .before .before .before .before .before in
+    let inv = at .loop .inv in
+    let here = put .before .carrier-at .ensures in (
+      inv .0,
       (
-        omega arith,
-        writing-next none (at .loop .inv .1 .1) (omega arith) (omega arith) (put .put-carrier .ensures .0) (put .put-carrier .ensures .1),
+        inv .1 .0,
+        (
+          omega arith,
+          writing-next none (inv .1 .1 .1) (omega arith) (omega arith) (rw here at (put .put-carrier .ensures .0)) (rw here at (put .put-carrier .ensures .1)),
+        ),
       ),
     )
 
 same-length : tie.Need-same-length Inv-loop μ-loop
-same-length c = c .before .loop .inv .1 .1 .same ∙ c .before .before .before .before .put-decimal-line .kept .0
+same-length c =
+    let at = c .before .before in
+    at .loop .inv .1 .1 .1 .same ∙ at .before .before .before .put-decimal-line .kept .0
 
 returns : tie.Need-returns Inv-loop μ-loop
 returns c =
-    let at = c .before in
+    let at = c .before .before in
     let first = at .before .before .before in
-    let a = start first .args in
-    writing-end (a .t2 .carriers) (a .t2 .count) (a .out .now) (start first .pre .1) (first .put-decimal-line .ensures) (at .loop .inv .1 .1) (c .loop-test .left)
+    rw (shows first) at (writing-end (f first) (records first) (start first .args .out .now) (room first) (first .put-decimal-line .ensures) (at .loop .inv .1 .1 .1) (c .if1 .left))
 
 pub put-text-spec : {M : Type 1} → statement M
 put-text-spec =
@@ -77,11 +107,11 @@ put-text-spec =
     (tie.spec
     Inv-loop
     μ-loop
+    figures-of-requires
     slice-aggregate-put-decimal-line
     put-decimal-line-requires
     loop-holds
-    mul-c
-    element-copy-out-c
+    carrier-at-requires
     put-carrier-requires
     add-i
     loop-less

@@ -1,182 +1,147 @@
 -- `lane::motion::drive_all` meets its contract. The invariant: what the places passed have given, and the definition's result is that
 -- followed by what it gives from the present place on.
 use borrow.Author.Needs.{needs}
-use borrow.Author.Tests.{ltb-false, leb-false}
-use mathlib.Core.Path.{_≡_, refl, sym, ap, _∙_}
-use mathlib.Core.Bool.{true≢false}
-use mathlib.Core.Logic.{⊎-elim}
-use Prim.Native.Nat.{_-_, _≤_, _<_}
+use mathlib.Core.Path.{_≡_, refl, sym, ap, _∙_, subst}
+use mathlib.Core.List.{List}
+use Prim.Native.Nat.{ℕ, _-_, _≤_, _<_}
 use native.Mathlib.Omega.{arith}
-use lib.Dec.{leb, ltb}
 use lib.IntN.{pos}
-use lib.ListN.{length, getD}
-use lib.Seq.{length-take-le}
+use lib.ListN.{getD}
 use mir.Syntax.{w64}
 use mir.Val.{SFits}
 use mir.Facts.{toZ-ofZ}
-use Rattle.wish.specs.declared.Wish.the-variants.{Units}
 use Rattle.lane.specs.declared.Carrier.{Carrier}
-use Rattle.lane.specs.declared.Lane.{Lane}
+use Rattle.lane.specs.Layout.{figuresIn, recordsIn}
+use Rattle.lane.specs.Wishes.{drive, moved}
 use Rattle.lane.specs.Calls.{none}
-use Rattle.lane.specs.Wishes.{moved}
-use Rattle.lane.proofs.Lists.{length-mapped}
-use Rattle.lane.proofs.Records.{holding, held, carriers-are}
-use Rattle.lane.proofs.Tests.{none-of}
-use Rattle.lane.proofs.Cycles.{Driving, driving-start, word-below, outside-here, driving-stays, driving-gone, all-inside, all-marked, all-kept}
+use Rattle.lane.proofs.checks.Surfaces.{row-brakes}
+use Rattle.lane.proofs.checks.Soundness.{SoundRoad, sound-road, Fit, fit-of, faultless, Narrow, fit-narrow}
+use Rattle.lane.proofs.driving.Drives.{moved-number}
+use Rattle.lane.proofs.driving.Cycles.{aheadAt, Driving, driving-start, word-below, here, driving-on, all-marked, all-kept}
 use Rattle.lane.proofs.motion.drive_all.Statement.{statement}
 use Rattle.lane.proofs.motion.drive_all.Tie as tie
 
 abbrev Inv-loop : tie.InvT-loop
-Inv-loop row l wishes next₀ left₀ word₀ ahead₀ i₀ next left word ahead i =
-    (length (l .carriers) ≡ 64)
-    × ((length wishes ≡ 64)
-    × ((i ≤ l .count)
-    × ((next ≡ holding l (next .carriers))
-    × Driving row (l .limit) (l .end) (l .count) (l .carriers) wishes (next .carriers) left word ahead i)))
+Inv-loop l₀ road count units row left₀ word₀ ahead₀ i₀ l left word ahead i =
+    (figuresIn l ≡ figuresIn l₀) × Driving road count (recordsIn l₀) units (recordsIn l) left word ahead i
 
 abbrev μ-loop : tie.MeasureT-loop
-μ-loop row l wishes next₀ left₀ word₀ ahead₀ i₀ next left word ahead i = l .count - i
+μ-loop l₀ road count units row left₀ word₀ ahead₀ i₀ l left word ahead i = count - i
 
--- the carrier at the loop's place is within the bounds
-speed-within : (c : tie.After-w Inv-loop μ-loop) → let s = c .before .before .before .before .before in
-    getD (s .args .t1 .carriers) (c .before .before .before .loop .i) none .speed ≤ s .args .t1 .limit
-speed-within c =
-    let s = c .before .before .before .before .before in
-    ltb-false _ _ (none-of (λ (x : Carrier). ltb (s .args .t1 .limit) (x .speed)) (s .args .t1 .carriers) (s .args .t1 .count) (c .before .before .before .loop .i) none (s .pre .1 .0) (omega arith) (omega arith))
+-- the carrier at the loop's place
+module _ (k : tie.After-carrier-at Inv-loop μ-loop) where
+  abbrev at : tie.At-loop Inv-loop μ-loop
+  at = k .before .before .before
 
-position-within : (c : tie.After-w Inv-loop μ-loop) → let s = c .before .before .before .before .before in
-    getD (s .args .t1 .carriers) (c .before .before .before .loop .i) none .position < s .args .t1 .end
-position-within c =
-    let s = c .before .before .before .before .before in
-    leb-false _ _ (none-of (λ (x : Carrier). leb (s .args .t1 .end) (x .position)) (s .args .t1 .carriers) (s .args .t1 .count) (c .before .before .before .loop .i) none (s .pre .1 .1) (omega arith) (omega arith))
+  abbrev s : tie.Start Inv-loop μ-loop
+  s = at .before .before .before
 
-element-copy-out-ahead : tie.Need-element-copy-out-ahead Inv-loop μ-loop
-element-copy-out-ahead c = search needs
+  abbrev cs : List Carrier
+  cs = recordsIn (s .args .l .now)
+
+  below : at .loop .i < s .args .count
+  below = omega arith
+
+  road-sound : SoundRoad (s .args .road)
+  road-sound = sound-road (s .args .road) (s .pre .0 .1 .0)
+
+  fit-here : Fit (s .args .road) (k .carrier-at .result)
+  fit-here =
+      subst (Fit (s .args .road)) (sym (k .carrier-at .ensures ∙ here (at .loop .inv .1)))
+      (fit-of (s .args .road) cs (s .args .count) (at .loop .i) none (faultless _ _ (s .pre .0 .1 .1)) below (omega (arith, s .pre .0 .0, s .pre .1)))
+
+  narrow-here : Narrow (k .carrier-at .result)
+  narrow-here = fit-narrow (s .args .road) (k .carrier-at .result) road-sound fit-here
+
+-- the units read and the acceleration driven are what 64 bits hold
+units-fit : (d : tie.After-drive-one Inv-loop μ-loop) → let k = d .before .before in SFits w64 (getD (s k .args .units .now) (at k .loop .i) (pos 0))
+units-fit d = search needs
+
+driven-fits : (t : tie.After-struct-told Inv-loop μ-loop) → SFits w64 (t .before .before .before .drive-one .result .acceleration)
+driven-fits t = search needs
+
+sized-requires : tie.Need-sized-requires Inv-loop μ-loop
+sized-requires c κs = search needs
+
+row-in-requires : tie.Need-row-in-requires Inv-loop μ-loop
+row-in-requires c κs = search needs
 
 loop-holds : tie.Need-loop-holds Inv-loop μ-loop
 loop-holds c =
-    let long : length (c .before .args .t1 .carriers) ≡ 64 = search (needs, length-mapped) in
-    (long, (search needs, (search needs, (refl, driving-start _ _ _ _ _ _ _ _ long))))
+    let s = c .before .before in
+    (refl, driving-start (s .args .road) (s .args .count) _ (s .args .units .now) (s .pre .0 .0) (s .pre .1) (c .before .sized .ensures))
 
-mul-c : tie.Need-mul-c Inv-loop μ-loop
-mul-c c = search needs
+carrier-at-requires : tie.Need-carrier-at-requires Inv-loop μ-loop
+carrier-at-requires c κs = search needs
 
-element-copy-out-c : tie.Need-element-copy-out-c Inv-loop μ-loop
-element-copy-out-c c = search needs
+mul-drive-one : tie.Need-mul-drive-one Inv-loop μ-loop
+mul-drive-one c = search needs
 
-mul-w : tie.Need-mul-w Inv-loop μ-loop
-mul-w c = search needs
-
-array-copy-out-w : tie.Need-array-copy-out-w Inv-loop μ-loop
-array-copy-out-w c = search needs
+element-copy-out-drive-one : tie.Need-element-copy-out-drive-one Inv-loop μ-loop
+element-copy-out-drive-one c = search needs
 
 drive-one-requires : tie.Need-drive-one-requires Inv-loop μ-loop
 drive-one-requires c κs =
-    let s = c .before .before .before .before .before in
-    (s .pre .0 .0, (speed-within c, s .pre .0 .1 .1 .1))
-
-returns : tie.Need-returns Inv-loop μ-loop
-returns c =
     let k = c .before in
-    let at = k .before .before .before .before in
-    let l = at .loop in
-    let a = at .before .before .args in (
-      outside-here (a .row) (a .t1 .limit) (a .t1 .end) (a .t1 .count) (a .t1 .carriers) (a .t2) none (Units (pos 0)) (l .next .carriers) (l .left) (l .word) (l .ahead) (l .i) (l .inv .1 .1 .1 .1) (omega arith) (omega arith) (omega arith) (omega arith) (k .drive-one .result) (k .drive-one .ensures .0) (c .if1 .taken),
-      (λ e. absurd (true≢false e), (λ e. absurd (true≢false e), omega (arith, ap (λ (x : Lane). x .count) (l .inv .1 .1 .1 .0)))),
+    let road = road-sound k in
+    let ahead = at k .loop .inv .1 .narrow in (
+      (row-brakes (at k .before .row-in .result) (s k .args .road .surface) (at k .before .row-in .ensures) (road .surface), (fit-here k .slow, road .limit-most)),
+      (narrow-here k .position, (ahead .position, ahead .speed)),
     )
 
 marked-requires : tie.Need-marked-requires Inv-loop μ-loop
 marked-requires c κs =
-    let l = c .before .before .before .before .before .loop in
-    (omega arith, word-below _ _ _ _ _ _ (l .inv .1 .1 .1 .1))
+    let k = c .before .before in
+    (omega (arith, below k, s k .pre .0 .0), word-below (at k .loop .inv .1))
 
 move-one-requires : tie.Need-move-one-requires Inv-loop μ-loop
 move-one-requires c κs =
-    let k = c .before .before .before in
-    let s = k .before .before .before .before .before .before in
-    let f : SFits w64 (k .drive-one .result .acceleration) = search needs in
-    rw (toZ-ofZ f) (
-      k .drive-one .ensures .1 .0,
+    let d = c .before .before .before in
+    let k = d .before .before in
+    rw (toZ-ofZ (driven-fits c)) (d .drive-one .ensures .1 .0, (omega (arith, d .drive-one .ensures .1 .1, road-sound k .limit-most), (narrow-here k .position, narrow-here k .speed)))
+
+keep-requires : tie.Need-keep-requires Inv-loop μ-loop
+keep-requires c κs =
+    let d = c .before .before .before .before in
+    let k = d .before .before in
+    let few = s k .pre .0 .0 in
+    let number : Carrier → ℕ = λ x. x .number in (
+      omega (arith, below k, few),
       (
-        omega (arith, k .drive-one .ensures .1 .1, s .pre .0 .1 .1 .1),
-        (omega (arith, position-within (k .before), s .pre .0 .1 .1 .0), omega (arith, speed-within (k .before), s .pre .0 .1 .1 .1)),
+        omega (arith, below k, few, at k .loop .inv .1 .few),
+        ap number (sym (k .carrier-at .ensures)) ∙ sym (ap number (c .move-one .ensures) ∙ moved-number (k .carrier-at .result) _),
       ),
     )
 
--- the record that is stored
-moved-is : (c : tie.After-move-one Inv-loop μ-loop) → let k = c .before .before .before .before in let at = k .before .before .before .before in
-    c .move-one .result ≡ moved (getD (at .before .before .args .t1 .carriers) (at .loop .i) none) (k .drive-one .result .acceleration)
-moved-is c =
-    let k = c .before .before .before .before in
-    let at = k .before .before .before .before in
-    let f : SFits w64 (k .drive-one .result .acceleration) = search needs in
-    c .move-one .ensures ∙ ap (moved (getD (at .before .before .args .t1 .carriers) (at .loop .i) none)) (toZ-ofZ f)
-
-mul-m : tie.Need-mul-m Inv-loop μ-loop
-mul-m c = search needs
-
-element-set-from-m : tie.Need-element-set-from-m Inv-loop μ-loop
-element-set-from-m c = omega (arith, c .before .before .before .before .before .before .before .before .before .before .loop .inv .1 .1 .1 .1 .few)
-
-add-left : tie.Need-add-left Inv-loop μ-loop
-add-left c = omega (arith, c .before .before .before .before .before .before .before .before .before .before .loop .inv .1 .1 .1 .1 .few)
-
 add-i : tie.Need-add-i Inv-loop μ-loop
-add-i c = search needs
+add-i c = let k = c .before .before .before .before .before .before .before in omega (arith, below k, s k .pre .0 .0)
 
 loop-less : tie.Need-loop-less Inv-loop μ-loop
-loop-less c = search needs
+loop-less c = let k = c .before .before .before .before .before .before .before in omega (arith, below k)
 
 loop-again : tie.Need-loop-again Inv-loop μ-loop
 loop-again c =
-    let mv = c .before .before in
-    let mk = mv .before .before in
-    let k = mk .before .before in
-    let at = k .before .before .before .before in
-    let l = at .loop in
-    let a = at .before .before .args in
-    let e = moved-is mv in
-    ⊎-elim
-    (λ w. rw (w .1, w .2, e) (
-      search needs,
-      (
-        search needs,
-        (
-          omega arith,
-          (held (a .t1) (l .next) _ (l .inv .1 .1 .1 .0), driving-stays (a .row) (a .t1 .limit) (a .t1 .end) (a .t1 .count) (a .t1 .carriers) (a .t2) none (Units (pos 0)) (l .next .carriers) (l .left) (l .word) (l .ahead) (l .i) (l .inv .1 .1 .1 .1) (omega arith) (omega arith) (omega arith) (omega arith) (k .drive-one .result) (k .drive-one .ensures .0) (mk .before .if1 .left) (mk .marked .result) (mk .marked .ensures) (rw (← e) (w .0 .taken))),
-        ),
-      ),
-    ))
-    (λ w. rw (w .1, w .2) (
-      search needs,
-      (
-        search needs,
-        (
-          omega arith,
-          (l .inv .1 .1 .1 .0, driving-gone (a .row) (a .t1 .limit) (a .t1 .end) (a .t1 .count) (a .t1 .carriers) (a .t2) none (Units (pos 0)) (l .next .carriers) (l .left) (l .word) (l .ahead) (l .i) (l .inv .1 .1 .1 .1) (omega arith) (omega arith) (omega arith) (omega arith) (k .drive-one .result) (k .drive-one .ensures .0) (mk .before .if1 .left) (mk .marked .result) (mk .marked .ensures) (rw (← e) (w .0 .left))),
-        ),
-      ),
-    ))
-    (c .if2 .came)
-
-returns-2 : tie.Need-returns-2 Inv-loop μ-loop
-returns-2 c =
-    let l = c .before .loop in
-    let a = c .before .before .before .args in
-    let m = l .inv .1 .1 .1 .1 in
-    let e : l .i ≡ a .t1 .count = omega arith in
-    let kept = all-kept (a .row) (a .t1 .limit) (a .t1 .end) (a .t1 .count) (a .t1 .carriers) (a .t2) (l .next .carriers) (l .left) (l .word) (l .ahead) (l .i) m e in (
-      all-inside (a .row) (a .t1 .limit) (a .t1 .end) (a .t1 .count) (a .t1 .carriers) (a .t2) (l .next .carriers) (l .left) (l .word) (l .ahead) (l .i) m e,
-      (
-        λ f. all-marked (a .row) (a .t1 .limit) (a .t1 .end) (a .t1 .count) (a .t1 .carriers) (a .t2) (l .next .carriers) (l .left) (l .word) (l .ahead) (l .i) m e,
-        (
-          λ f. carriers-are (a .t1) (l .next) (l .left) (l .next .carriers) _ (l .inv .1 .1 .1 .0)
-              (sym (length-take-le (l .left) (l .next .carriers) (omega (arith, m .few, m .long))) ∙ ap length kept)
-              kept,
-          omega (arith, m .few),
-        ),
-      ),
+    let moves = c .before in
+    let marks = moves .before .before .before in
+    let d = marks .before in
+    let k = d .before .before in
+    let row = at k .before .row-in in
+    let x = k .carrier-at .result in
+    let inv = at k .loop .inv in
+    let driven = ap (drive (row .result) (s k .args .road .limit) (aheadAt (at k .loop .i) (at k .loop .ahead)) x) (toZ-ofZ (units-fit d)) in
+    let moved-there = ap (moved x) (toZ-ofZ (driven-fits (moves .before))) in (
+      c .keep .ensures .0 ∙ inv .0,
+      driving-on (inv .1) (row .result) x (d .drive-one .result) (marks .marked .result) (moves .move-one .result) (below k) (narrow-here k) (row .ensures)
+          (k .carrier-at .ensures) (d .drive-one .ensures .0 ∙ driven) (marks .marked .ensures) (moves .move-one .ensures ∙ moved-there) _ _
+          (c .keep .ensures .1 .0) (c .keep .ensures .1 .1),
     )
+
+returns : tie.Need-returns Inv-loop μ-loop
+returns c =
+    let inv = c .before .loop .inv in
+    let m = inv .1 in
+    let past : c .before .before .before .before .args .count ≤ c .before .loop .i = omega arith in
+    (all-marked m past, (all-kept m past, (omega (arith, m .few, m .place), (inv .0, m .long))))
 
 pub drive-all-spec : {M : Type 1} → statement M
 drive-all-spec =
@@ -184,20 +149,17 @@ drive-all-spec =
     (tie.spec
     Inv-loop
     μ-loop
-    element-copy-out-ahead
+    sized-requires
+    row-in-requires
     loop-holds
-    mul-c
-    element-copy-out-c
-    mul-w
-    array-copy-out-w
+    carrier-at-requires
+    mul-drive-one
+    element-copy-out-drive-one
     drive-one-requires
-    returns
     marked-requires
     move-one-requires
-    mul-m
-    element-set-from-m
-    add-left
+    keep-requires
     add-i
     loop-less
     loop-again
-    returns-2)
+    returns)

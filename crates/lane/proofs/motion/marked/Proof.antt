@@ -1,7 +1,7 @@
 -- `lane::motion::marked` meets its contract: a bit above all that are set is added.
 use borrow.Author.Needs.{needs}
 use native.Mathlib.Omega.{arith}
-use Rattle.lane.proofs.Words.{bit-set}
+use Rattle.lane.proofs.lists.Words.{bit-set}
 use Rattle.lane.proofs.motion.marked.Statement.{statement}
 use Rattle.lane.proofs.motion.marked.Tie as tie
 

@@ -2,51 +2,103 @@
 use borrow.Author.Needs.{needs}
 use mathlib.Core.Path.{_≡_, sym, ap, ap₂, _∙_}
 use mathlib.Core.Bool.{Bool}
-use native.Mathlib.Omega.{arith}
-use lib.IntN.{ℤ}
 use lib.Signed.{leZ}
 use mir.Syntax.{w64}
 use mir.Val.{SFits, toZ, ofZ}
 use mir.Facts.{toZ-ofZ}
 use Rattle.headway.specs.Motion.{speedAfter}
 use Rattle.headway.specs.Stopping.{braking}
-use Rattle.headway.specs.Totals.{passesOf}
-use Rattle.lane.proofs.Drives.{foremost-stands, braking-stands, stands-by-rest}
+use Rattle.headway.specs.Totals.{restOf}
+use Rattle.lane.specs.Safety.{guaranteedRate}
+use Rattle.lane.proofs.driving.Drives.{foremost-stands, braking-stands, stands-by-rest}
 use Rattle.lane.proofs.motion.wish_stands.Statement.{statement}
 use Rattle.lane.proofs.motion.wish_stands.Tie as tie
 
--- the test against guaranteed braking, said of the wish itself
-tested : (c : tie.After-braking) (t : Bool) → leZ (toZ w64 (ofZ w64 (c .before .before .args .w))) (toZ w64 (ofZ w64 (c .braking .result))) ≡ t
-    → leZ (c .before .before .args .w) (braking (c .before .before .args .row .guaranteed) (c .before .before .args .c .speed)) ≡ t
-tested c t e =
-    let f : SFits w64 (c .braking .result) = search needs in
-    ap₂ leZ (sym (toZ-ofZ (c .before .before .fits .w))) (sym (toZ-ofZ f ∙ c .braking .ensures)) ∙ e
+module _ (c : tie.After-braking) where
+  abbrev s : tie.Start
+  s = c .before .before .before .before
+
+  -- the test against guaranteed braking, said of the wish itself
+  tested : (t : Bool) → leZ (toZ w64 (ofZ w64 (s .args .w))) (toZ w64 (ofZ w64 (c .braking .result))) ≡ t
+      → leZ (s .args .w) (braking (guaranteedRate (s .args .row) (s .args .c)) (s .args .c .speed)) ≡ t
+  tested t e =
+      let f : SFits w64 (c .braking .result) = search needs in
+      let rate = c .before .before .guaranteed-rate .ensures in
+      let speed = c .before .narrow .ensures in
+      ap₂ leZ (sym (toZ-ofZ (s .fits .w))) (sym (toZ-ofZ f ∙ c .braking .ensures ∙ ap₂ braking rate speed)) ∙ e
 
 returns : tie.Need-returns
 returns c =
     let a = c .before .args in
     foremost-stands (a .row) (a .foremost) (a .ahead) (a .c) (a .w) (c .if1 .taken)
 
+guaranteed-rate-requires : tie.Need-guaranteed-rate-requires
+guaranteed-rate-requires c κs = search needs
+
+narrow-requires : tie.Need-narrow-requires
+narrow-requires c κs = search needs
+
 braking-requires : tie.Need-braking-requires
 braking-requires c κs = search needs
 
 returns-2 : tie.Need-returns-2
 returns-2 c =
-    let a = c .before .before .before .args in
-    braking-stands (a .row) (a .foremost) (a .ahead) (a .c) (a .w) (c .before .before .if1 .left) (tested (c .before) _ (c .if2 .taken))
+    let b = c .before in
+    let a = s b .args in
+    braking-stands (a .row) (a .foremost) (a .ahead) (a .c) (a .w) (b .before .before .before .if1 .left) (tested b _ (c .if2 .taken))
 
-rests-behind-requires : tie.Need-rests-behind-requires
-rests-behind-requires c κs = search needs
+next-speed-requires : tie.Need-next-speed-requires
+next-speed-requires c κs = search needs
+
+narrow-requires-2 : tie.Need-narrow-requires-2
+narrow-requires-2 c κs = search needs
+
+narrow-requires-3 : tie.Need-narrow-requires-3
+narrow-requires-3 c κs = search needs
+
+rest-requires : tie.Need-rest-requires
+rest-requires c κs = search needs
+
+reach-to-requires : tie.Need-reach-to-requires
+reach-to-requires c κs = search needs
+
+reached-requires : tie.Need-reached-requires
+reached-requires c κs = search needs
+
+rests-below-requires : tie.Need-rests-below-requires
+rests-below-requires c κs = search needs
 
 returns-3 : tie.Need-returns-3
 returns-3 c =
-    let b = c .before .before in
-    let s = b .before .before in
-    let a = s .args in
-    c .rests-behind .ensures
-    ∙ ap (λ (z : ℤ). passesOf (a .row .guaranteed) (a .row .hardest) (a .c .position) (a .c .speed) z (a .ahead .position) (a .ahead .speed)) (toZ-ofZ (s .fits .w))
-    ∙ stands-by-rest (a .row) (a .foremost) (a .ahead) (a .c) (a .w) (b .before .if1 .left) (speedAfter (a .c .speed) (a .w)) (s .pre .0 .0) (s .pre .0 .1) (s .pre .1 .0) (omega (arith, s .pre .1 .1)) (tested b _ (c .before .if2 .left))
+    let there = c .before in
+    let reach = there .before in
+    let rest = reach .before in
+    let speed = rest .before in
+    let position = speed .before in
+    let n = position .before in
+    let b = n .before .before in
+    let g = s b in
+    let a = g .args in
+    c .rests-below .ensures
+    ∙ stands-by-rest (a .row) (a .foremost) (a .ahead) (a .c) (a .w) (b .before .before .before .if1 .left) _ _ _ _ _ _ (g .pre .0 .0) (g .pre .0 .1)
+    (g .pre .1 .0 .0) (tested b _ (n .before .if2 .left)) (b .before .before .guaranteed-rate .ensures) (b .before .narrow .ensures)
+    (n .next-speed .ensures ∙ ap (speedAfter (a .c .speed)) (toZ-ofZ (g .fits .w))) (reach .reach-to .ensures) (there .reached .ensures)
+    (rest .rest .ensures ∙ ap₂ (restOf (a .row .hardest)) (position .narrow2 .ensures) (speed .narrow3 .ensures))
 
 pub wish-stands-spec : {M : Type 1} → statement M
 wish-stands-spec =
-    tie.close (tie.spec returns braking-requires returns-2 rests-behind-requires returns-3)
+    tie.close
+    (tie.spec
+    returns
+    guaranteed-rate-requires
+    narrow-requires
+    braking-requires
+    returns-2
+    next-speed-requires
+    narrow-requires-2
+    narrow-requires-3
+    rest-requires
+    reach-to-requires
+    reached-requires
+    rests-below-requires
+    returns-3)

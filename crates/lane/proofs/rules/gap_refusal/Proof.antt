@@ -1,104 +1,123 @@
 -- The tests on the two carriers next to the place are made in the order of `gapNo`, each only where there is such a carrier.
-use mathlib.Core.Path.{_≡_, refl, sym, _∙_}
-use mathlib.Core.Bool.{true}
+use mathlib.Core.Path.{_≡_, refl, _∙_}
+use mathlib.Core.Bool.{true, not, _&&_}
 use mathlib.Core.Logic.{⊎-elim}
+use Prim.Native.Nat.{_-_}
 use native.Mathlib.Omega.{arith}
-use borrow.Author.Tests.{not-true, not-false, lt-ltb, le-ltb}
-use lib.ListN.{length, take}
-use lib.Seq.{getD-take, length-take-le}
-use Rattle.lane.specs.Safety.{safeWith}
-use Rattle.lane.specs.Calls.{none, aheadOf, gapNo}
-use Rattle.lane.proofs.Gaps.{ahead-is, ahead-nobody}
 use borrow.Author.Needs.{needs}
+use borrow.Author.Tests.{not-false, lt-ltb, le-ltb}
+use lib.Dec.{ltb}
+use lib.ListN.{length, getD, take}
+use lib.Seq.{getD-take, length-take-le}
+use Rattle.lane.specs.Surface.{rowIn}
+use Rattle.lane.specs.Layout.{recordsIn}
+use Rattle.lane.specs.Safety.{leader, safeWith}
+use Rattle.lane.specs.Calls.{none, aheadOf, gapNo}
+use Rattle.lane.proofs.checks.Soundness.{Fit, sound-road, newcomer-fit, faultless, fit-of}
+use Rattle.lane.proofs.checks.Gaps.{pair-narrow, ahead-is, ahead-nobody}
 use Rattle.lane.proofs.rules.gap_refusal.Statement.{statement}
 use Rattle.lane.proofs.rules.gap_refusal.Tie as tie
 
-sub-ahead : tie.Need-sub-ahead
-sub-ahead c = search needs
+row-in-requires : tie.Need-row-in-requires
+row-in-requires c κs = search needs
 
-mul-ahead : tie.Need-mul-ahead
-mul-ahead c = search needs
+sub-carrier-at : tie.Need-sub-carrier-at
+sub-carrier-at c = search needs
 
-array-copy-out-ahead : tie.Need-array-copy-out-ahead
-array-copy-out-ahead c = search needs
+carrier-at-requires : tie.Need-carrier-at-requires
+carrier-at-requires c κs = search needs
 
 safe-requires : tie.Need-safe-requires
-safe-requires c κs = search needs
+safe-requires c κs =
+    let at = c .before .before in
+    let s = at .before in
+    let a = s .args in
+    let ahead : Fit (a .road) (c .carrier-at .result) =
+    rw (c .carrier-at .ensures) (fit-of (a .road) (recordsIn (a .l .now)) (a .count) (a .place - 1) none (faultless _ _ (s .pre .1 .1 .1)) (omega arith) (omega arith)) in
+    pair-narrow (a .road) _ _ _ (sound-road _ (s .pre .1 .0)) (at .row-in .ensures) ahead (newcomer-fit _ _ (s .pre .1 .1 .0))
 
--- past the first test, whichever way
-ahead-safe : (c : tie.Joined1)
-    → safeWith (c .before .args .row) (aheadOf (c .before .args .place) (take (c .before .args .count) (c .before .args .t1))) (c .before .args .c)
-    ≡ true
-unfolding safeWith
-ahead-safe c =
-    let l = c .before .args .t1 in
-    let count = c .before .args .count in
-    let place = c .before .args .place in
-    ⊎-elim (λ w. rw (ahead-is l count place (w .0 .taken) (search needs)) (sym (w .2 .ensures) ∙ not-false _ (w .3 .left)))
-    (λ w. rw (ahead-nobody l count place (w .left)) refl)
-    (c .if1 .came)
+-- the first test, where someone is ahead
+ahead-tested : (c : tie.After-safe) → let a = c .before .before .before .before .args in
+    safeWith (rowIn (a .road)) (aheadOf (a .place) (take (a .count) (recordsIn (a .l .now)))) (a .c) ≡ c .safe .result
+ahead-tested c =
+    let at = c .before .before in
+    let a = at .before .before .args in
+    rw (
+      ahead-is (recordsIn (a .l .now)) (a .count) (a .place) (at .if1 .taken) (omega arith),
+      c .safe .ensures,
+      c .before .carrier-at .ensures,
+      at .before .row-in .ensures,
+    )
+    refl
 
 returns : tie.Need-returns
 unfolding gapNo
-returns c =
-    let a = c .before .before .before .before .args in
-    rw (ahead-is (a .t1) (a .count) (a .place) (c .before .before .before .if1 .taken) (search needs), sym (c .before .safe .ensures) ∙ not-true _ (c .if2 .taken)) refl
+returns c = rw (ahead-tested (c .before), c .if2 .taken) refl
 
-mul-behind : tie.Need-mul-behind
-mul-behind c = search needs
+-- past the first test, whichever way
+ahead-safe : (c : tie.Joined1) → let a = c .before .before .args in
+    safeWith (rowIn (a .road)) (aheadOf (a .place) (take (a .count) (recordsIn (a .l .now)))) (a .c) ≡ true
+unfolding safeWith
+ahead-safe c =
+    let a = c .before .before .args in
+    ⊎-elim
+    (λ w. ahead-tested record { before = record { before = record { before = c .before; if1 = w .0 }; carrier-at = w .1 }; safe = w .2 } ∙ not-false _ (w .3 .left))
+    (λ w. rw (ahead-nobody (recordsIn (a .l .now)) (a .count) (a .place) (w .left)) refl)
+    (c .if1 .came)
 
-array-copy-out-behind : tie.Need-array-copy-out-behind
-array-copy-out-behind c = search needs
+carrier-at-requires-2 : tie.Need-carrier-at-requires-2
+carrier-at-requires-2 c κs = search needs
 
 safe-requires-2 : tie.Need-safe-requires-2
-safe-requires-2 c κs = search needs
+safe-requires-2 c κs =
+    let at = c .before .before .before in
+    let s = at .before in
+    let a = s .args in
+    let behind : Fit (a .road) (c .carrier-at2 .result) =
+    rw (c .carrier-at2 .ensures) (fit-of (a .road) (recordsIn (a .l .now)) (a .count) (a .place) none (faultless _ _ (s .pre .1 .1 .1)) (omega arith) (omega arith)) in
+    pair-narrow (a .road) _ _ _ (sound-road _ (s .pre .1 .0)) (at .row-in .ensures) (newcomer-fit _ _ (s .pre .1 .1 .0)) behind
+
+-- the second test, where someone is behind
+behind-tested : (c : tie.After-safe2) → let a = c .before .before .before .before .before .args in let cs = take (a .count) (recordsIn (a .l .now)) in
+    ltb (a .place) (length cs) && not (safeWith (rowIn (a .road)) (leader (a .c)) (getD cs (a .place) none)) ≡ not (c .safe2 .result)
+behind-tested c =
+    let at = c .before .before in
+    let a = at .before .before .before .args in
+    let l = recordsIn (a .l .now) in
+    rw (
+      length-take-le (a .count) l (omega arith),
+      lt-ltb _ _ (at .if3 .taken),
+      getD-take (a .count) l (a .place) none (at .if3 .taken),
+      c .safe2 .ensures,
+      c .before .carrier-at2 .ensures,
+      at .before .before .row-in .ensures,
+    )
+    refl
 
 returns-2 : tie.Need-returns-2
 unfolding gapNo
-returns-2 c =
-    let a = c .before .before .before .before .before .args in
-    let long : length (a .t1) ≡ 64 = search needs in
-    rw (
-      ahead-safe (c .before .before .before .before),
-      length-take-le (a .count) (a .t1) (omega arith),
-      lt-ltb _ _ (c .before .before .before .if3 .taken),
-      getD-take (a .count) (a .t1) (a .place) none (c .before .before .before .if3 .taken),
-      sym (c .before .safe2 .ensures) ∙ not-true _ (c .if4 .taken),
-    )
-    refl
+returns-2 c = rw (ahead-safe (c .before .before .before .before), behind-tested (c .before), c .if4 .taken) refl
 
 returns-3 : tie.Need-returns-3
 unfolding gapNo
-returns-3 c =
-    let a = c .before .before .before .before .before .args in
-    let long : length (a .t1) ≡ 64 = search needs in
-    rw (
-      ahead-safe (c .before .before .before .before),
-      length-take-le (a .count) (a .t1) (omega arith),
-      lt-ltb _ _ (c .before .before .before .if3 .taken),
-      getD-take (a .count) (a .t1) (a .place) none (c .before .before .before .if3 .taken),
-      sym (c .before .safe2 .ensures) ∙ not-false _ (c .if4 .left),
-    )
-    refl
+returns-3 c = rw (ahead-safe (c .before .before .before .before), behind-tested (c .before), c .if4 .left) refl
 
 returns-4 : tie.Need-returns-4
 unfolding gapNo
 returns-4 c =
-    let a = c .before .before .args in
-    let long : length (a .t1) ≡ 64 = search needs in
-    rw (ahead-safe (c .before), length-take-le (a .count) (a .t1) (omega arith), le-ltb _ _ (c .if3 .left)) refl
+    let a = c .before .before .before .args in
+    rw (ahead-safe (c .before), length-take-le (a .count) (recordsIn (a .l .now)) (omega arith), le-ltb _ _ (c .if3 .left)) refl
 
 pub gap-refusal-spec : {M : Type 1} → statement M
 gap-refusal-spec =
     tie.close
     (tie.spec
-    sub-ahead
-    mul-ahead
-    array-copy-out-ahead
+    row-in-requires
+    sub-carrier-at
+    carrier-at-requires
     safe-requires
     returns
-    mul-behind
-    array-copy-out-behind
+    carrier-at-requires-2
     safe-requires-2
     returns-2
     returns-3

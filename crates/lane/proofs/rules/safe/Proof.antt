@@ -1,17 +1,19 @@
--- At rates of at least 1 the outcome is what the document calls safe behind.
-use mathlib.Core.Path.{_∙_}
+use mathlib.Core.Path.{refl}
 use borrow.Author.Needs.{needs}
-use Rattle.headway.proofs.Laws.{safe-is}
-use Rattle.lane.specs.Safety.{safeWith}
 use Rattle.lane.proofs.rules.safe.Statement.{statement}
 use Rattle.lane.proofs.rules.safe.Tie as tie
 
-safe-behind-requires : tie.Need-safe-behind-requires
-safe-behind-requires c κs = search needs
+guaranteed-rate-requires : tie.Need-guaranteed-rate-requires
+guaranteed-rate-requires c κs = search needs
+
+rest-requires : tie.Need-rest-requires
+rest-requires c κs = search needs
+
+safe-at-requires : tie.Need-safe-at-requires
+safe-at-requires c κs = ((search needs, rw (c .rest .ensures, c .before .guaranteed-rate .ensures) refl), search needs)
 
 returns : tie.Need-returns
-unfolding safeWith
-returns c = c .safe-behind .ensures ∙ safe-is _ _ _ _ _ _ (c .before .pre .0) (c .before .pre .1)
+returns c = search needs
 
 pub safe-spec : {M : Type 1} → statement M
-safe-spec = tie.close (tie.spec safe-behind-requires returns)
+safe-spec = tie.close (tie.spec guaranteed-rate-requires rest-requires safe-at-requires returns)

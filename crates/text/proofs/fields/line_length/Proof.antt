@@ -7,7 +7,7 @@ use native.Mathlib.Omega.{arith}
 use lib.ListN.{length, getD, drop, drop-of-length-le}
 use lib.Seq.{drop-cons}
 use borrow.Author.Tests.{eq-eqb, ne-eqb}
-use Rattle.text.specs.Fields.{lineLength}
+use Rattle.text.specs.Fields.{lineLength, longestLine}
 use Rattle.text.proofs.fields.line_length.Statement.{statement}
 use Rattle.text.proofs.fields.line_length.Tie as tie
 
@@ -25,21 +25,28 @@ module _ (text : List ℕ) (i : ℕ) where
   at-end h = rw (drop-of-length-le text h)
 
 abbrev Inv-loop : tie.InvT-loop
-Inv-loop text i₀ i = (i ≤ length text) × (i + lineLength (drop i text) ≡ lineLength text)
+Inv-loop text i₀ i = (i ≤ longestLine) × ((i ≤ length text) × (i + lineLength (drop i text) ≡ lineLength text))
 
 abbrev μ-loop : tie.MeasureT-loop
-μ-loop text i₀ i = length text - i
+μ-loop text i₀ i = longestLine - i
 
 loop-holds : tie.Need-loop-holds Inv-loop μ-loop
 loop-holds c = omega arith
 
-shared-slice-read-if1 : tie.Need-shared-slice-read-if1 Inv-loop μ-loop
-shared-slice-read-if1 c = omega arith
-
 returns : tie.Need-returns Inv-loop μ-loop
 returns c =
-    let now = c .before .before .before .loop in
-    omega (arith, at-newline (c .before .before .before .before .args .text .now) (now .i) (omega arith) (c .if1 .taken))
+    let now = c .before .before .loop in
+    let end = at-end (c .before .before .before .args .text .now) (now .i) (omega arith) in
+    (λ h. omega arith, λ h. omega arith)
+
+shared-slice-read-if2 : tie.Need-shared-slice-read-if2 Inv-loop μ-loop
+shared-slice-read-if2 c = omega arith
+
+returns-2 : tie.Need-returns-2 Inv-loop μ-loop
+returns-2 c =
+    let now = c .before .before .before .before .loop in
+    let newline = at-newline (c .before .before .before .before .before .args .text .now) (now .i) (omega arith) (c .if2 .taken) in
+    (λ h. omega arith, λ h. omega arith)
 
 add-i : tie.Need-add-i Inv-loop μ-loop
 add-i c = omega arith
@@ -49,11 +56,11 @@ loop-less c = omega arith
 
 loop-again : tie.Need-loop-again Inv-loop μ-loop
 loop-again c =
-    let now = c .before .before .before .loop in
-    omega (arith, at-other (c .before .before .before .before .args .text .now) (now .i) (omega arith) (c .if1 .left))
+    let now = c .before .before .before .before .loop in
+    omega (arith, at-other (c .before .before .before .before .before .args .text .now) (now .i) (omega arith) (c .if2 .left))
 
-returns-2 : tie.Need-returns-2 Inv-loop μ-loop
-returns-2 c = omega (arith, at-end (c .before .before .args .text .now) (c .before .loop .i) (omega arith))
+returns-3 : tie.Need-returns-3 Inv-loop μ-loop
+returns-3 c = (λ h. omega arith, λ h. omega arith)
 
 pub line-length-spec : {M : Type 1} → statement M
 line-length-spec =
@@ -62,9 +69,10 @@ line-length-spec =
     Inv-loop
     μ-loop
     loop-holds
-    shared-slice-read-if1
     returns
+    shared-slice-read-if2
+    returns-2
     add-i
     loop-less
     loop-again
-    returns-2)
+    returns-3)

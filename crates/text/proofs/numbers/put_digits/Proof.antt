@@ -1,37 +1,37 @@
 -- `text::numbers::put_digits` meets its contract: the digits that are left, written into the buffer as it is, give what all of them give at first.
-use mathlib.Core.Path.{_≡_, refl, sym, ap, subst, _∙_}
-use mathlib.Core.List.{List, [], _∷_, _++_}
-use Prim.Native.Nat.{ℕ, suc, _+_, _-_, _/_, _%_, _≤_, _<_}
-use native.Mathlib.Nat.{mod-lt, lt-of-lt-of-le}
+use mathlib.Core.Path.{_≡_, refl, sym, ap, _∙_}
+use mathlib.Core.List.{List}
+use Prim.Native.Nat.{ℕ, suc, _+_, _-_, _*_, _/_, _%_, _≤_, _<_}
 use native.Mathlib.Omega.{arith}
-use lib.ListN.{length, set, length-set}
+use lib.ListN.{length, length-set}
 use Rattle.text.specs.Numbers.{digit, digits}
 use Rattle.text.specs.Lines.{written}
-use Rattle.text.proofs.Digits.{length-digits}
+use Rattle.text.proofs.Digits.{length-digits, digit-small, square, two-of, two-more}
 use Rattle.text.proofs.Laws.{written-nothing, written-before, written-one}
 use Rattle.text.proofs.numbers.put_digits.Statement.{statement}
 use Rattle.text.proofs.numbers.put_digits.Tie as tie
 
--- the last digit stored, and then those before it
-last-first : (at b k n : ℕ) (buffer : List ℕ) → at + k < length buffer
-    → written at (digits b k (n / b)) (set buffer (at + k) (digit (n % b))) ≡ written at (digits b (suc k) n) buffer
-unfolding digits
-last-first at b k n buffer room =
-    let d : ℕ = digit (n % b) in
-    let ds : List ℕ = digits b k (n / b) in
-    let e : length ds ≡ k = length-digits b k (n / b) in
-    rw (← written-one (at + k) d buffer room)
-    (subst (λ (j : ℕ). written at ds (written (at + j) (d ∷ []) buffer) ≡ written at (ds ++ (d ∷ [])) buffer) e
-    (written-before at ds (d ∷ []) buffer (omega (arith, e))))
+-- the last two digits put, and then those before them
+two-first : (at b left n : ℕ) (buffer : List ℕ) → 2 ≤ left → at + left ≤ length buffer
+    → written at (digits b (left - 2) (n / (b * b))) (written (at + (left - 2)) (digits b 2 n) buffer) ≡ written at (digits b left n) buffer
+two-first at b left n buffer h room =
+    let front : List ℕ = digits b (left - 2) (n / (b * b)) in
+    let back : List ℕ = digits b 2 n in
+    let long : length front ≡ left - 2 = length-digits b (left - 2) (n / (b * b)) in
+    let e : suc (suc (left - 2)) ≡ left = omega arith in
+    cc (written-before at front back buffer (omega (arith, length-digits b 2 n)), two-more b (left - 2) n)
 
 abbrev Inv-loop : tie.InvT-loop
-Inv-loop out₀ at base count n left₀ rest₀ out left rest =
+Inv-loop out₀ at base count n square left₀ rest₀ out left rest =
     (left ≤ count)
     × (length out ≡ length out₀)
     × (written at (digits base left rest) out ≡ written at (digits base count n) out₀)
 
 abbrev μ-loop : tie.MeasureT-loop
-μ-loop out₀ at base count n left₀ rest₀ out left rest = left
+μ-loop out₀ at base count n square left₀ rest₀ out left rest = left
+
+mul-square : tie.Need-mul-square Inv-loop μ-loop
+mul-square c = let p = square (c .before .pre .0) in omega arith
 
 loop-holds : tie.Need-loop-holds Inv-loop μ-loop
 loop-holds c = (omega arith, refl, refl)
@@ -39,49 +39,66 @@ loop-holds c = (omega arith, refl, refl)
 sub-left : tie.Need-sub-left Inv-loop μ-loop
 sub-left c = omega arith
 
-rem-digit : tie.Need-rem-digit Inv-loop μ-loop
-rem-digit c = omega arith
+add-put-two : tie.Need-add-put-two Inv-loop μ-loop
+add-put-two c = omega arith
 
-digit-requires : tie.Need-digit-requires Inv-loop μ-loop
-digit-requires c κs = let pre = c .before .before .before .pre in lt-of-lt-of-le (mod-lt _ (pre .0 .0)) (pre .0 .1)
+rem-put-two : tie.Need-rem-put-two Inv-loop μ-loop
+rem-put-two c = square (c .before .before .before .before .pre .0) .0
 
-add-out : tie.Need-add-out Inv-loop μ-loop
-add-out c = omega arith
-
-slice-write-out : tie.Need-slice-write-out Inv-loop μ-loop
-slice-write-out c = omega arith
+put-two-requires : tie.Need-put-two-requires Inv-loop μ-loop
+put-two-requires c κs = (c .before .before .before .before .pre .0, omega arith)
 
 div-rest : tie.Need-div-rest Inv-loop μ-loop
-div-rest c = omega arith
+div-rest c = square (c .before .before .before .before .before .before .before .pre .0) .0
 
 loop-less : tie.Need-loop-less Inv-loop μ-loop
 loop-less c = omega arith
 
 loop-again : tie.Need-loop-again Inv-loop μ-loop
 loop-again c =
-    let now = c .before .before .loop in
-    let args = c .before .before .before .before .args in
-    let e : suc (now .left - 1) ≡ now .left = omega arith in (
+    let put = c .before .before in
+    let now = put .before .before .before .loop in
+    let start = put .before .before .before .before .before in
+    let a = start .args in (
       omega arith,
-      length-set (now .out) (args .at + (now .left - 1)) (c .digit .result) ∙ now .inv .1,
-      rw (c .digit .ensures)
-          (last-first (args .at) (args .base) (now .left - 1) (now .rest) (now .out) (omega arith)
-          ∙ ap (λ (k : ℕ). written (args .at) (digits (args .base) k (now .rest)) (now .out)) e
-          ∙ now .inv .2),
+      put .put-two .kept .0 ∙ now .inv .1,
+      rw (put .put-two .ensures, two-of (a .base) (now .rest) (start .pre .0 .0))
+          (two-first (a .at) (a .base) (now .left) (now .rest) (now .out) (omega arith) (omega arith) ∙ now .inv .2),
     )
 
+rem-digit : tie.Need-rem-digit Inv-loop μ-loop
+rem-digit c = omega arith
+
+digit-requires : tie.Need-digit-requires Inv-loop μ-loop
+digit-requires c κs = digit-small _ (c .before .before .before .before .pre .0)
+
+slice-write-out : tie.Need-slice-write-out Inv-loop μ-loop
+slice-write-out c = omega arith
+
 same-length : tie.Need-same-length Inv-loop μ-loop
-same-length c = c .before .loop .inv .1
+same-length c =
+    let now = c .before .before .before .loop in
+    length-set (now .out) (c .before .before .before .before .before .args .at) (c .digit .result) ∙ now .inv .1
 
 returns : tie.Need-returns Inv-loop μ-loop
 unfolding digits
 returns c =
-    let now = c .before .loop in
-    let args = c .before .before .before .args in
+    let now = c .before .before .before .loop in
+    let a = c .before .before .before .before .before .args in
+    let e : 1 ≡ now .left = omega arith in
+    rw (c .digit .ensures, ← written-one (a .at) (digit (now .rest % a .base)) (now .out) (omega arith))
+    (ap (λ (k : ℕ). written (a .at) (digits (a .base) k (now .rest)) (now .out)) e ∙ now .inv .2)
+
+same-length-2 : tie.Need-same-length-2 Inv-loop μ-loop
+same-length-2 c = c .before .before .loop .inv .1
+
+returns-2 : tie.Need-returns-2 Inv-loop μ-loop
+unfolding digits
+returns-2 c =
+    let now = c .before .before .loop in
+    let a = c .before .before .before .before .args in
     let e : 0 ≡ now .left = omega arith in
-    sym (written-nothing (args .at) (now .out))
-    ∙ ap (λ (k : ℕ). written (args .at) (digits (args .base) k (now .rest)) (now .out)) e
-    ∙ now .inv .2
+    sym (written-nothing (a .at) (now .out)) ∙ ap (λ (k : ℕ). written (a .at) (digits (a .base) k (now .rest)) (now .out)) e ∙ now .inv .2
 
 pub put-digits-spec : {M : Type 1} → statement M
 put-digits-spec =
@@ -89,14 +106,19 @@ put-digits-spec =
     (tie.spec
     Inv-loop
     μ-loop
+    mul-square
     loop-holds
     sub-left
-    rem-digit
-    digit-requires
-    add-out
-    slice-write-out
+    add-put-two
+    rem-put-two
+    put-two-requires
     div-rest
     loop-less
     loop-again
+    rem-digit
+    digit-requires
+    slice-write-out
     same-length
-    returns)
+    returns
+    same-length-2
+    returns-2)

@@ -1,0 +1,8 @@
+-- What a call gives, and what it keeps.
+pub mod Answers
+pub mod Texts
+pub mod Runs
+pub mod Entering
+pub mod Leaving
+pub mod Order
+pub mod Keeps

@@ -1,0 +1,183 @@
+-- What a call gives by the two cases that it ends in, refused or accepted, and what is known of the lane where it is accepted.
+use mathlib.Core.Path.{_≡_, refl, sym, ap, _∙_}
+use mathlib.Core.Bool.{Bool, true, false, not, cond}
+use mathlib.Core.List.{List}
+use Prim.Native.Nat.{ℕ, _≤_, _<_}
+use native.Mathlib.Omega.{arith}
+use borrow.Author.Tests.{ne-eqb, eqb-true, eqb-false, ltb-true, not-false}
+use lib.Dec.{eqb, leb}
+use lib.ListN.{length, take, length-take}
+use Rattle.wish.specs.declared.Wish.{Wish}
+use Rattle.lane.specs.declared.Carrier.{Carrier}
+use Rattle.lane.specs.Limits.{mostCarriers, lastCycle}
+use Rattle.lane.specs.Surface.{rowIn}
+use Rattle.lane.specs.State.{State}
+use Rattle.lane.specs.Layout.{Words, stateOf, recordsIn}
+use Rattle.lane.specs.Safety.{anyOf, numbered}
+use Rattle.lane.specs.Rules.{badNumber, tooFast, unlawful, pastEnd, newcomerNo, broken}
+use Rattle.lane.specs.Wishes.{anyOutside}
+use Rattle.lane.specs.Calls.{ifAccepted, walk, gapNo, placeNo, enterNo, namedNo, placeOf, readyNo, cycleNo}
+use Rattle.lane.specs.Call.{Call, start-call, enter-call, leave-call, cycle-call, read-call, text-call, Answer, callNo, acceptedState, lentTo, bare, acceptedAnswer, callAnswer, callState, Gives}
+use Rattle.lane.proofs.lists.Passed.{passed}
+use Rattle.lane.proofs.lists.Search.{place-any, place-le}
+use Rattle.lane.proofs.checks.Soundness.{Sound, sound}
+
+-- a value of a call that is refused, and of one that is accepted
+refused-has : {A : Type 0} (n : ℕ) (x y : A) → ¬ (n ≡ 0) → ifAccepted n x y ≡ y
+refused-has n x y h = rw (ne-eqb n 0 h) refl
+
+pub accepted-has : {A : Type 0} (n : ℕ) (x y : A) → n ≡ 0 → ifAccepted n x y ≡ x
+accepted-has n x y e = rw e refl
+
+-- where checks follow others, an accepted call passes both
+accepted-both : (n m : ℕ) → ifAccepted n m n ≡ 0 → (n ≡ 0) × (m ≡ 0)
+accepted-both n m e = by-test (eqb n 0) refl e
+  where
+    by-test : (t : Bool) → eqb n 0 ≡ t → cond t m n ≡ 0 → (n ≡ 0) × (m ≡ 0)
+    by-test true p q = (eqb-true n 0 p, q)
+    by-test false p q = absurd (eqb-false n 0 p q)
+
+-- ---- any call
+
+module _ (x : Call) (s : State) where
+  module _ (h : ¬ (callNo x s ≡ 0)) where
+    -- "Lane, cycle number and lent bytes are unchanged."
+    pub refused-changes-nothing : callState x s ≡ s
+    unfolding callState
+    refused-changes-nothing = refused-has (callNo x s) (acceptedState x s) s h
+
+    pub refused-answers : callAnswer x s ≡ bare (callNo x s) (lentTo x)
+    unfolding callAnswer
+    refused-answers = refused-has (callNo x s) (acceptedAnswer x s) (bare (callNo x s) (lentTo x)) h
+
+  module _ (e : callNo x s ≡ 0) where
+    pub accepted-changes : callState x s ≡ acceptedState x s
+    unfolding callState
+    accepted-changes = accepted-has (callNo x s) (acceptedState x s) s e
+
+    pub accepted-answers : callAnswer x s ≡ acceptedAnswer x s
+    unfolding callAnswer
+    accepted-answers = accepted-has (callNo x s) (acceptedAnswer x s) (bare (callNo x s) (lentTo x)) e
+
+-- the number that is answered is the call's
+pub answer-number : (x : Call) (s : State) → callAnswer x s .number ≡ callNo x s
+answer-number x s = by-test (eqb (callNo x s) 0) refl
+  where
+    by-test : (t : Bool) → eqb (callNo x s) 0 ≡ t → callAnswer x s .number ≡ callNo x s
+    by-test true e =
+        let z = eqb-true (callNo x s) 0 e in
+        ap (λ (a : Answer). a .number) (accepted-answers x s z) ∙ sym z
+    by-test false e = ap (λ (a : Answer). a .number) (refused-answers x s (eqb-false (callNo x s) 0 e))
+
+-- ---- what a function gives, for its contract
+
+pub gives-refused : (x : Call) (l : Words) (n : ℕ) → n ≡ callNo x (stateOf l) → ¬ (n ≡ 0) → Gives x l (bare n (lentTo x)) l
+gives-refused x l n e h =
+    let f : ¬ (callNo x (stateOf l) ≡ 0) = λ z. h (e ∙ z) in
+    record {
+      answer = rw e (sym (refused-answers x (stateOf l) f));
+      state = sym (refused-changes-nothing x (stateOf l) f);
+      refused = λ p. refl;
+    }
+
+pub gives-accepted : (x : Call) (l m : Words) → callNo x (stateOf l) ≡ 0 → stateOf m ≡ acceptedState x (stateOf l)
+    → Gives x l (acceptedAnswer x (stateOf l)) m
+gives-accepted x l m e f =
+    record {
+      answer = sym (accepted-answers x (stateOf l) e);
+      state = f ∙ sym (accepted-changes x (stateOf l) e);
+      refused = λ p. absurd (omega arith);
+    }
+
+-- ---- what an accepted call tells; every call but start looks at the lane first
+pub accepted-sound : (s : State) (later : ℕ) → cond (broken s) 21 later ≡ 0 → Sound s
+accepted-sound s later e = sound s (passed (broken s) 20 later e .0)
+
+-- a lane has no more carriers than it counts
+pub counted-most : (l : Words) → length (stateOf l .carriers) ≤ stateOf l .count
+counted-most l = omega (arith, length-take (stateOf l .count) (recordsIn l))
+
+-- an enter
+pub record Enters (s : State) (c : Carrier) : Type 0 where
+  pub sound : Sound s
+  pub lawful : unlawful (s .road) c ≡ false
+  pub before-end : pastEnd (s .road) c ≡ false
+  pub room : s .count < 64
+  pub new : anyOf (numbered (c .number)) (s .carriers) ≡ false
+  pub gap : gapNo (rowIn (s .road)) (walk (c .position) (s .carriers)) c (s .carriers) ≡ 0
+
+pub enter-tells : (s : State) (c : Carrier) → enterNo s c ≡ 0 → Enters s c
+unfolding enterNo newcomerNo placeNo unlawful pastEnd
+enter-tells s c e =
+    let h = accepted-sound s _ e in
+    let own = accepted-both (newcomerNo (s .road) c) (placeNo s c) (passed (broken s) 20 _ e .1) in
+    let number = passed (badNumber (c .number)) 3 _ (own .0) in
+    let position = passed (leb (s .road .end) (c .position)) 4 _ (number .1) in
+    let speed = passed (tooFast (s .road) c) 5 0 (position .1) in
+    let full = passed (eqb (s .count) mostCarriers) 21 _ (own .1) in
+    let present = passed (anyOf (numbered (c .number)) (s .carriers)) 22 _ (full .1) in
+    let most : ¬ (s .count ≡ 64) = eqb-false (s .count) 64 (full .0) in
+    record {
+      sound = h;
+      lawful = rw (number .0, speed .0) refl;
+      before-end = position .0;
+      room = omega (arith, h .count);
+      new = present .0;
+      gap = present .1;
+    }
+
+pub walk-le : (position : ℕ) (cs : List Carrier) → walk position cs ≤ length cs
+unfolding walk
+walk-le position cs = place-le _ cs
+
+-- a leave or a read: the carrier named is there
+pub record Names (s : State) (number : ℕ) : Type 0 where
+  pub sound : Sound s
+  pub within : placeOf number (s .carriers) < length (s .carriers)
+
+pub named-tells : (s : State) (number : ℕ) → namedNo s number ≡ 0 → Names s number
+unfolding namedNo
+named-tells s number e =
+    let there = present (anyOf (numbered number) (s .carriers)) (passed (badNumber number) 3 _ (passed (broken s) 20 _ e .1) .1) in
+    record { sound = accepted-sound s _ e; within = ltb-true _ _ (place-any (numbered number) (s .carriers) ∙ there) }
+  where
+    present : (t : Bool) → _≡_ {A = ℕ} (cond t 0 24) 0 → t ≡ true
+    present true f = refl
+    present false f = absurd (omega arith)
+
+-- a cycle, before its wishes are looked at
+pub record Ready (s : State) (count : ℕ) : Type 0 where
+  pub sound : Sound s
+  pub counted : count ≡ s .count
+  pub not-last : ¬ (s .cycle ≡ lastCycle)
+
+pub ready-tells : (s : State) (count : ℕ) → readyNo s count ≡ 0 → Ready s count
+unfolding readyNo
+ready-tells s count e =
+    let counts = passed (not (eqb count (s .count))) 26 _ (passed (broken s) 20 _ e .1) in
+    record {
+      sound = accepted-sound s _ e;
+      counted = eqb-true count (s .count) (not-false _ (counts .0));
+      not-last = eqb-false (s .cycle) lastCycle (passed (eqb (s .cycle) lastCycle) 27 0 (counts .1) .0);
+    }
+
+module _ (s : State) (count : ℕ) (ws : List Wish) where
+  pub cycle-not-ready : ¬ (readyNo s count ≡ 0) → cycleNo s count ws ≡ readyNo s count
+  unfolding cycleNo
+  cycle-not-ready h = refused-has (readyNo s count) _ (readyNo s count) h
+
+  module _ (e : readyNo s count ≡ 0) where
+    pub cycle-outside : anyOutside (s .carriers) (take (s .count) ws) ≡ true → cycleNo s count ws ≡ 7
+    unfolding cycleNo
+    cycle-outside o = rw (e, o) refl
+
+    pub cycle-inside : anyOutside (s .carriers) (take (s .count) ws) ≡ false → cycleNo s count ws ≡ 0
+    unfolding cycleNo
+    cycle-inside o = rw (e, o) refl
+
+  -- and with them
+  pub cycle-tells : cycleNo s count ws ≡ 0 → (readyNo s count ≡ 0) × (anyOutside (s .carriers) (take (s .count) ws) ≡ false)
+  unfolding cycleNo
+  cycle-tells e =
+      let b = accepted-both (readyNo s count) (cond (anyOutside (s .carriers) (take (s .count) ws)) 7 0) e in
+      (b .0, passed (anyOutside (s .carriers) (take (s .count) ws)) 6 0 (b .1) .0)

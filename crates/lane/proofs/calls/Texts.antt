@@ -1,0 +1,174 @@
+-- The lane text as its loops over the carriers make it, its length, and what decides `lane_text`.
+use mathlib.Core.Path.{_≡_, refl, ap, _∙_}
+use mathlib.Core.Bool.{true, false}
+use mathlib.Core.List.{List, [], _∷_, _++_, append-assoc}
+use Prim.Native.Nat.{ℕ, _+_, _*_, _≤_, _<_}
+use native.Mathlib.Nat.{zero-add}
+use native.Mathlib.Omega.{arith}
+use lib.Dec.{ltb}
+use lib.ListN.{length, getD, take, length-append}
+use lib.Seq.{slice}
+use Rattle.text.specs.Ascii.{ascii}
+use Rattle.text.specs.Numbers.{decimal}
+use Rattle.text.specs.Lines.{line, written}
+use Rattle.text.proofs.Laws.{decimal-at-most, length-line, length-written, place-fits, written-fits, written-nothing, written-then, Put, put-both}
+use Rattle.lane.specs.declared.Carrier.{Carrier}
+use Rattle.lane.specs.declared.Road.{Road}
+use Rattle.lane.specs.declared.layout.Figures.{Figures}
+use Rattle.lane.specs.Limits.{longestText}
+use Rattle.lane.specs.State.{State}
+use Rattle.lane.specs.Layout.{Words, stateWith, stateOf}
+use Rattle.lane.specs.Safety.{anyOf}
+use Rattle.lane.specs.Rules.{unlawful, pastEnd, broken}
+use Rattle.lane.specs.Listing.{carKey, atKey, speedKey, carrierText, carriersText, laneText, textNo, textBytes}
+use Rattle.lane.proofs.lists.Lists.{slice-next, slice-past}
+use Rattle.lane.proofs.lists.Tests.{neither}
+use Rattle.lane.proofs.checks.Soundness.{SoundRoad, fit, sound}
+use Rattle.lane.proofs.calls.Answers.{counted-most}
+
+-- ---- lengths
+
+-- the most digits of a word
+pub digits-64 : (n : ℕ) → n < 18446744073709551616 → length (decimal n) ≤ 20
+digits-64 n h = decimal-at-most 20 n (omega arith) (omega arith)
+
+pub length-carrier : (c : Carrier)
+    → length (carrierText c) ≡ 16 + length (decimal (c .number)) + length (decimal (c .position)) + length (decimal (c .speed))
+unfolding carrierText
+length-carrier c = simp (length-append, length-line) (omega arith)
+
+-- the lines of a carrier have at most 16 bytes beside the digits, 5, 10 and 4
+carriers-length : (road : Road) → SoundRoad road → (cs : List Carrier) → anyOf (unlawful road) cs ≡ false → anyOf (pastEnd road) cs ≡ false
+    → length (carriersText cs) ≤ 35 * length cs
+unfolding carriersText anyOf
+carriers-length road r [] e p = omega arith
+carriers-length road r (c ∷ cs) e p =
+    let here = neither (unlawful road c) (anyOf (unlawful road) cs) e in
+    let before = neither (pastEnd road c) (anyOf (pastEnd road) cs) p in
+    let f = fit road c (here .0) (before .0) in
+    let number = decimal-at-most 5 (c .number) (omega arith) (omega arith) in
+    let position = decimal-at-most 10 (c .position) (omega arith) (omega arith) in
+    let speed = decimal-at-most 4 (c .speed) (omega arith) (omega arith) in
+    rw (length-append (carrierText c) (carriersText cs), length-carrier c) (omega (arith, carriers-length road r cs (here .1) (before .1)))
+
+-- so that no text is longer than the longest
+pub text-most : (l : Words) → broken (stateOf l) ≡ false → length (laneText (stateOf l)) ≤ longestText
+unfolding laneText
+text-most l b =
+    let s = stateOf l in
+    let h = sound s b in
+    rw (length-append, length-line) (omega (
+      arith,
+      decimal-at-most 2 (s .count) (omega arith) (omega (arith, h .count)),
+      carriers-length (s .road) (h .road) (s .carriers) (h .carriers .lawful) (h .carriers .before-end),
+      counted-most l,
+      h .count,
+    ))
+
+-- ---- the carriers that a loop has still to see
+
+carriers-next : (d : Carrier) (l : List Carrier) (i count : ℕ) → i < count → count ≤ length l
+    → carriersText (slice i count l) ≡ carrierText (getD l i d) ++ carriersText (slice (i + 1) count l)
+unfolding carriersText
+carriers-next d l i count h k = rw (slice-next d l i count h k) refl
+
+pub carriers-past : (l : List Carrier) (i count : ℕ) → count ≤ i → carriersText (slice i count l) ≡ []
+unfolding carriersText
+carriers-past l i count h = rw (slice-past l i count h) refl
+
+pub length-next : (d : Carrier) (l : List Carrier) (i count : ℕ) → i < count → count ≤ length l
+    → length (carriersText (slice i count l)) ≡ length (carrierText (getD l i d)) + length (carriersText (slice (i + 1) count l))
+length-next d l i count h k = ap length (carriers-next d l i count h k) ∙ simp length-append
+
+-- ---- writes
+
+pub put-carrier : (at : ℕ) (c : Carrier) (buffer : List ℕ) {p q end : ℕ} {out₁ out₂ out : List ℕ} → at + length (carrierText c) ≤ length buffer
+    → Put at (line carKey (decimal (c .number))) buffer out₁ p
+    → Put p (line atKey (decimal (c .position))) out₁ out₂ q
+    → Put q (line speedKey (decimal (c .speed))) out₂ out end
+    → (out ≡ written at (carrierText c) buffer) × (end ≡ at + length (carrierText c))
+unfolding carrierText
+put-carrier at c buffer {p} {q} {end} {out₁} {out₂} {out} room x y z =
+    let number = line carKey (decimal (c .number)) in
+    let position = line atKey (decimal (c .position)) in
+    let speed = line speedKey (decimal (c .speed)) in
+    let whole : at + length (number ++ position ++ speed) ≤ length buffer = rw append-assoc room in
+    let both = put-both at number position buffer (omega (arith, length-append (number ++ position) speed)) x y in
+    let all = put-both at (number ++ position) speed buffer whole both z in
+    (rw append-assoc at (all .0), rw append-assoc at (all .1 ∙ place-fits at (number ++ position ++ speed) buffer whole))
+
+-- what a loop over the carriers has written: those from i on are still to be put, and there is room
+pub record Writing (carriers : List Carrier) (count at₀ : ℕ) (out₀ out : List ℕ) (at i : ℕ) : Type 0 where
+  pub same : length out ≡ length out₀
+  pub ends : at + length (carriersText (slice i count carriers)) ≡ at₀ + length (carriersText (take count carriers))
+  pub room : at + length (carriersText (slice i count carriers)) ≤ length out
+  pub rest : written at (carriersText (slice i count carriers)) out ≡ written at₀ (carriersText (take count carriers)) out₀
+
+-- the first line is put
+module _ (f : Figures) (records : List Carrier) (buffer : List ℕ) {at₀ : ℕ} {out₀ : List ℕ}
+    (room : length (laneText (stateWith f records)) ≤ length buffer)
+    (p : Put 0 (line (ascii "cars=") (decimal (f .count))) buffer out₀ at₀) where
+  abbrev header : List ℕ
+  header = line (ascii "cars=") (decimal (f .count))
+
+  abbrev carriers : List ℕ
+  carriers = carriersText (take (f .count) records)
+
+  first-room : length header + length carriers ≤ length buffer
+  unfolding laneText
+  first-room = rw length-append at room
+
+  first-place : at₀ ≡ 0 + length header
+  first-place = p .1 ∙ place-fits 0 header buffer (omega (arith, first-room))
+
+  pub writing-start : Writing records (f .count) at₀ out₀ out₀ at₀ 0
+  writing-start =
+      let same : length out₀ ≡ length buffer = ap length (p .0) ∙ length-written 0 header buffer in
+      record { same = refl; ends = refl; room = omega (arith, first-room, first-place); rest = refl }
+
+  pub writing-end : {out : List ℕ} {at i : ℕ} → Writing records (f .count) at₀ out₀ out at i → f .count ≤ i
+      → (out ≡ written 0 (laneText (stateWith f records)) buffer) × (at ≡ length (laneText (stateWith f records)))
+  unfolding laneText
+  writing-end {out} {at} {i} w h =
+      let past = carriers-past records i (f .count) h in (
+        cc (written-nothing at out, past, w .rest, first-place, written-then 0 header carriers buffer (omega (arith, first-room))),
+        rw length-append (omega (arith, ap length past, w .ends, first-place)),
+      )
+
+-- and then each carrier's lines
+pub writing-next : (d : Carrier) {carriers : List Carrier} {count at₀ at at₁ i : ℕ} {out₀ out out₁ : List ℕ}
+    → Writing carriers count at₀ out₀ out at i → i < count → count ≤ length carriers
+    → out₁ ≡ written at (carrierText (getD carriers i d)) out → at₁ ≡ at + length (carrierText (getD carriers i d))
+    → Writing carriers count at₀ out₀ out₁ at₁ (i + 1)
+writing-next d {carriers} {count} {at₀} {at} {at₁} {i} {out₀} {out} {out₁} w h k e f =
+    let bytes = carrierText (getD carriers i d) in
+    let left = carriersText (slice (i + 1) count carriers) in
+    let same : length out₁ ≡ length out = ap length e ∙ length-written at bytes out in
+    let long = length-next d carriers i count h k in
+    record {
+      same = same ∙ w .same;
+      ends = omega (arith, w .ends);
+      room = omega (arith, w .room);
+      rest = cc (written-then at bytes left out (omega (arith, w .room)), carriers-next d carriers i count h k, w .rest);
+    }
+
+-- ---- what decides `lane_text`
+
+module _ (s : State) (buffer : List ℕ) where
+  pub text-broken : broken s ≡ true → textNo s buffer ≡ 21
+  unfolding textNo
+  text-broken b = rw b refl
+
+  module _ (b : broken s ≡ false) where
+    pub text-too-long : ltb (length buffer) (length (laneText s)) ≡ true → textNo s buffer ≡ 9
+    unfolding textNo
+    text-too-long h = rw (b, h) refl
+
+    pub text-fits : ltb (length buffer) (length (laneText s)) ≡ false → textNo s buffer ≡ 0
+    unfolding textNo
+    text-fits h = rw (b, h) refl
+
+  -- the text put at the buffer's start
+  pub text-put : length (laneText s) ≤ length buffer → written 0 (laneText s) buffer ≡ textBytes s buffer
+  unfolding textBytes
+  text-put h = simp zero-add at (written-fits 0 (laneText s) buffer (omega arith))

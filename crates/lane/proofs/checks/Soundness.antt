@@ -1,0 +1,175 @@
+-- What is known of a road, of carriers and of a state that break no rule, and what is enough for it.
+use mathlib.Core.Path.{_≡_, refl}
+use mathlib.Core.Bool.{true, false, not, _||_}
+use mathlib.Core.List.{List, _∷_}
+use Prim.Native.Nat.{ℕ, _+_, _≤_, _<_}
+use native.Mathlib.Omega.{arith}
+use borrow.Author.Tests.{le-ltb, lt-leb, ltb-false, leb-false, eqb-true, not-false}
+use lib.Dec.{eqb, leb, ltb}
+use lib.ListN.{length, getD, take}
+use lib.Seq.{slice}
+use Rattle.lane.specs.declared.Carrier.{Carrier}
+use Rattle.lane.specs.declared.Road.{Road}
+use Rattle.lane.specs.declared.layout.Figures.{Figures}
+use Rattle.lane.specs.Surface.{rowIn}
+use Rattle.lane.specs.Layout.{Words, figuresIn, recordsIn, stateWith, stateOf}
+use Rattle.lane.specs.State.{State}
+use Rattle.lane.specs.Safety.{laneSafe, anyOf, repeats}
+use Rattle.lane.specs.Rules.{outsideOf, badNumber, roadNo, tooFast, unlawful, pastEnd, faulty, broken, newcomerNo}
+use Rattle.lane.proofs.lists.Lists.{slice-next}
+use Rattle.lane.proofs.lists.Tests.{neither, none-at, none-of, any-or}
+use Rattle.lane.proofs.lists.Passed.{passed}
+
+-- ---- the road
+pub record SoundRoad (road : Road) : Type 0 where
+  pub surface : road .surface ≤ 7
+  pub end-least : 1 ≤ road .end
+  pub end-most : road .end ≤ 2147483648
+  pub limit-least : 1 ≤ road .limit
+  pub limit-most : road .limit ≤ 8192
+
+within : (low high n : ℕ) → outsideOf low high n ≡ false → (low ≤ n) × (n ≤ high)
+within low high n e = let t = neither (ltb n low) (ltb high n) e in (ltb-false n low (t .0), ltb-false high n (t .1))
+
+pub sound-road : (road : Road) → roadNo road ≡ 0 → SoundRoad road
+unfolding roadNo
+sound-road road e =
+    let code = passed (ltb 7 (road .surface)) 0 _ e in
+    let end = passed (outsideOf 1 2147483648 (road .end)) 1 _ (code .1) in
+    let limit = passed (outsideOf 1 8192 (road .limit)) 2 0 (end .1) in
+    let ends = within 1 2147483648 (road .end) (end .0) in
+    let limits = within 1 8192 (road .limit) (limit .0) in
+    record {
+      surface = ltb-false 7 (road .surface) (code .0);
+      end-least = ends .0;
+      end-most = ends .1;
+      limit-least = limits .0;
+      limit-most = limits .1;
+    }
+
+pub sound-road-holds : (road : Road) → SoundRoad road → roadNo road ≡ 0
+unfolding roadNo
+sound-road-holds road h =
+    rw (
+      le-ltb 7 (road .surface) (h .surface),
+      le-ltb (road .end) 1 (h .end-least),
+      le-ltb 2147483648 (road .end) (h .end-most),
+      le-ltb (road .limit) 1 (h .limit-least),
+      le-ltb 8192 (road .limit) (h .limit-most),
+    )
+    refl
+
+-- ---- a carrier by itself
+pub record Fit (road : Road) (c : Carrier) : Type 0 where
+  pub number-least : 1 ≤ c .number
+  pub number-most : c .number ≤ 65535
+  pub slow : c .speed ≤ road .limit
+  pub before-end : c .position < road .end
+
+pub fit : (road : Road) (c : Carrier) → unlawful road c ≡ false → pastEnd road c ≡ false → Fit road c
+unfolding unlawful pastEnd
+fit road c e p =
+    let t = neither (badNumber (c .number)) (tooFast road c) e in
+    let number = within 1 65535 (c .number) (t .0) in
+    record {
+      number-least = number .0;
+      number-most = number .1;
+      slow = ltb-false (road .limit) (c .speed) (t .1);
+      before-end = leb-false (road .end) (c .position) p;
+    }
+
+pub fit-lawful : (road : Road) (c : Carrier) → Fit road c → unlawful road c ≡ false
+unfolding unlawful
+fit-lawful road c h =
+    rw (le-ltb (c .number) 1 (h .number-least), le-ltb 65535 (c .number) (h .number-most), le-ltb (road .limit) (c .speed) (h .slow)) refl
+
+pub fit-before-end : (road : Road) (c : Carrier) → Fit road c → pastEnd road c ≡ false
+unfolding pastEnd
+fit-before-end road c h = lt-leb (road .end) (c .position) (h .before-end)
+
+pub newcomer-fit : (road : Road) (c : Carrier) → newcomerNo road c ≡ 0 → Fit road c
+unfolding newcomerNo unlawful pastEnd
+newcomer-fit road c e =
+    let number = passed (badNumber (c .number)) 3 _ e in
+    let position = passed (leb (road .end) (c .position)) 4 _ (number .1) in
+    let speed = passed (tooFast road c) 5 0 (position .1) in
+    fit road c (rw (number .0, speed .0) refl) (position .0)
+
+-- its numbers are 32 bits wide
+pub record Narrow (c : Carrier) : Type 0 where
+  pub position : c .position < 4294967296
+  pub speed : c .speed < 4294967296
+
+pub fit-narrow : (road : Road) (c : Carrier) → SoundRoad road → Fit road c → Narrow c
+fit-narrow road c r h = record { position = omega arith; speed = omega arith }
+
+-- ---- carriers
+pub record Faultless (road : Road) (cs : List Carrier) : Type 0 where
+  pub lawful : anyOf (unlawful road) cs ≡ false
+  pub before-end : anyOf (pastEnd road) cs ≡ false
+  pub distinct : repeats cs ≡ false
+  pub safe : laneSafe (rowIn road) cs ≡ true
+
+pub faultless : (road : Road) (cs : List Carrier) → faulty road cs ≡ false → Faultless road cs
+unfolding faulty
+faultless road cs e =
+    let alone = anyOf (λ c. unlawful road c || pastEnd road c) cs in
+    let t = neither (alone || repeats cs) (not (laneSafe (rowIn road) cs)) e in
+    let u = neither alone (repeats cs) (t .0) in
+    let v = neither (anyOf (unlawful road) cs) (anyOf (pastEnd road) cs) (rw (any-or (unlawful road) (pastEnd road) cs) at (u .0)) in
+    record {
+      lawful = v .0;
+      before-end = v .1;
+      distinct = u .1;
+      safe = not-false (laneSafe (rowIn road) cs) (t .1);
+    }
+
+pub faultless-holds : (road : Road) (cs : List Carrier) → Faultless road cs → faulty road cs ≡ false
+unfolding faulty
+faultless-holds road cs h =
+    rw (any-or (unlawful road) (pastEnd road) cs, h .lawful, h .before-end, h .distinct, h .safe) refl
+
+pub fit-at : (road : Road) (cs : List Carrier) (i : ℕ) (d : Carrier) → Faultless road cs → i < length cs → Fit road (getD cs i d)
+fit-at road cs i d h p =
+    fit road (getD cs i d) (none-at (unlawful road) cs i d (h .lawful) p) (none-at (pastEnd road) cs i d (h .before-end) p)
+
+-- the same of the first `count` records
+pub fit-of : (road : Road) (l : List Carrier) (count i : ℕ) (d : Carrier) → Faultless road (take count l) → i < count → count ≤ length l → Fit road (getD l i d)
+fit-of road l count i d h p k =
+    fit road (getD l i d) (none-of (unlawful road) l count i d (h .lawful) p k) (none-of (pastEnd road) l count i d (h .before-end) p k)
+
+-- and of those from a place on
+pub fit-from : (road : Road) (l : List Carrier) (count i : ℕ) (d : Carrier) → Faultless road (slice i count l) → i < count → count ≤ length l → Fit road (getD l i d)
+fit-from road l count i d h p k = fit-at road (getD l i d ∷ slice (i + 1) count l) 0 d (rw (slice-next d l i count p k) at h) (omega arith)
+
+-- ---- a state
+pub record Sound (s : State) : Type 0 where
+  pub started : s .started ≡ true
+  pub road : SoundRoad (s .road)
+  pub count : s .count ≤ 64
+  pub carriers : Faultless (s .road) (s .carriers)
+
+pub sound : (s : State) → broken s ≡ false → Sound s
+unfolding broken
+sound s e =
+    let never = not (s .started) in
+    let off = not (eqb (roadNo (s .road)) 0) in
+    let many = ltb 64 (s .count) in
+    let t = neither (never || off || many) (faulty (s .road) (s .carriers)) e in
+    let u = neither (never || off) many (t .0) in
+    let v = neither never off (u .0) in
+    record {
+      started = not-false (s .started) (v .0);
+      road = sound-road (s .road) (eqb-true (roadNo (s .road)) 0 (not-false _ (v .1)));
+      count = ltb-false 64 (s .count) (u .1);
+      carriers = faultless (s .road) (s .carriers) (t .1);
+    }
+
+pub sound-holds : (s : State) → Sound s → broken s ≡ false
+unfolding broken
+sound-holds s h =
+    rw (h .started, sound-road-holds (s .road) (h .road), le-ltb 64 (s .count) (h .count), faultless-holds (s .road) (s .carriers) (h .carriers)) refl
+
+-- of a lane whose figures the code holds
+pub sound-with : (l : Words) (f : Figures) → f ≡ figuresIn l → broken (stateOf l) ≡ false → Sound (stateWith f (recordsIn l))
+sound-with l f e unbroken = rw e (sound (stateOf l) unbroken)

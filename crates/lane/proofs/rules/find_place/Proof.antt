@@ -1,0 +1,100 @@
+-- The checks are made in the order of `placeNo`, and the place is where the walk ends.
+use mathlib.Core.Path.{_≡_, refl, _∙_}
+use native.Mathlib.Omega.{arith}
+use borrow.Author.Needs.{needs}
+use borrow.Author.Tests.{eq-eqb, ne-eqb}
+use lib.Dec.{ltb}
+use lib.ListN.{take}
+use lib.Seq.{length-take-le}
+use Rattle.lane.specs.Layout.{recordsIn, stateWith, stateOf}
+use Rattle.lane.specs.Calls.{walk, placeNo}
+use Rattle.lane.proofs.lists.Search.{place-le}
+use Rattle.lane.proofs.checks.Soundness.{Sound, sound-with, sound-road-holds, faultless-holds}
+use Rattle.lane.proofs.checks.Checks.{place-checks, refused-as, accepted-as}
+use Rattle.lane.proofs.rules.find_place.Statement.{statement}
+use Rattle.lane.proofs.rules.find_place.Tie as tie
+
+figures-of-requires : tie.Need-figures-of-requires
+figures-of-requires c κs = search needs
+
+-- what the figures and the records have
+known : (c : tie.After-figures-of) → Sound (stateWith (c .figures-of .result) (recordsIn (c .before .args .l .now)))
+known c = sound-with _ _ (c .figures-of .ensures .0) (c .before .pre .0)
+
+refused-requires : tie.Need-refused-requires
+refused-requires c κs = search needs
+
+returns : tie.Need-returns
+returns c =
+    let at = c .before .before .before in
+    let a = at .before .args in
+    refused-as (placeNo (stateOf (a .l .now)) (a .c)) _ _ _ (place-checks (a .l .now) _ (at .figures-of .ensures .0) (a .c) ∙ rw (eq-eqb _ _ (c .before .if1 .taken)) refl) (λ e. omega arith) (c .refused .ensures)
+
+numbered-from-requires : tie.Need-numbered-from-requires
+numbered-from-requires c κs = let at = c .before .before in (search needs, (known at .count, at .figures-of .ensures .1))
+
+refused-requires-2 : tie.Need-refused-requires-2
+refused-requires-2 c κs = search needs
+
+returns-2 : tie.Need-returns-2
+returns-2 c =
+    let tested = c .before .before in
+    let at = tested .before .before .before in
+    let a = at .before .args in
+    refused-as (placeNo (stateOf (a .l .now)) (a .c)) _ _ _
+    (place-checks (a .l .now) _ (at .figures-of .ensures .0) (a .c) ∙ rw (ne-eqb _ _ (tested .before .if1 .left), ← tested .numbered-from .ensures, c .before .if2 .taken) refl)
+    (λ e. omega arith)
+    (c .refused2 .ensures)
+
+entry-place-requires : tie.Need-entry-place-requires
+entry-place-requires c κs = known (c .before .before .before .before) .count
+
+gap-refusal-requires : tie.Need-gap-refusal-requires
+unfolding walk
+gap-refusal-requires c κs =
+    let at = c .before .before .before .before .before in
+    let a = at .before .args in
+    let f = at .figures-of .result in
+    let l = recordsIn (a .l .now) in
+    let s = known at in
+    let few = length-take-le (f .count) l (omega arith) in
+    let end = place-le (λ k. ltb (k .position) (a .c .position)) (take (f .count) l) in (
+      (omega (arith, c .entry-place .ensures), (s .count, at .figures-of .ensures .1)),
+      (sound-road-holds (f .road) (s .road), (rw (at .figures-of .ensures .0) (at .before .pre .1), faultless-holds (f .road) (take (f .count) l) (s .carriers))),
+    )
+
+-- past 22 and 23 the gap decides
+gap-decides : (c : tie.After-gap-refusal) → let a = c .before .before .before .before .before .before .before .args in placeNo (stateOf (a .l .now)) (a .c) ≡ c .gap-refusal .result
+gap-decides c =
+    let new = c .before .before in
+    let at = new .before .before .before .before in
+    let a = at .before .args in
+    place-checks (a .l .now) _ (at .figures-of .ensures .0) (a .c)
+    ∙ rw (ne-eqb _ _ (new .before .before .if1 .left), ← new .before .numbered-from .ensures, new .if2 .left, ← c .before .entry-place .ensures, ← c .gap-refusal .ensures) refl
+
+refused-requires-3 : tie.Need-refused-requires-3
+refused-requires-3 c κs = search needs
+
+returns-3 : tie.Need-returns-3
+returns-3 c = refused-as _ _ _ _ (gap-decides (c .before .before)) (c .before .if3 .taken) (c .refused3 .ensures)
+
+returns-4 : tie.Need-returns-4
+returns-4 c =
+    let at = c .before .before .before .before .before .before .before in
+    accepted-as _ _ _ (gap-decides (c .before) ∙ c .if3 .left) (rw (at .figures-of .ensures .0) at (c .before .before .entry-place .ensures))
+
+pub find-place-spec : {M : Type 1} → statement M
+find-place-spec =
+    tie.close
+    (tie.spec
+    figures-of-requires
+    refused-requires
+    returns
+    numbered-from-requires
+    refused-requires-2
+    returns-2
+    entry-place-requires
+    gap-refusal-requires
+    refused-requires-3
+    returns-3
+    returns-4)

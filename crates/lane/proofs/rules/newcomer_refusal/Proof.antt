@@ -1,0 +1,38 @@
+-- The checks are made in the order of `newcomerNo`, and each answer is the first that fails.
+use mathlib.Core.Path.{_≡_, refl, sym, _∙_}
+use mathlib.Core.Bool.{false}
+use borrow.Author.Needs.{needs}
+use borrow.Author.Tests.{lt-ltb, le-ltb, le-leb, lt-leb}
+use Rattle.lane.specs.Rules.{badNumber, newcomerNo}
+use Rattle.lane.proofs.rules.newcomer_refusal.Statement.{statement}
+use Rattle.lane.proofs.rules.newcomer_refusal.Tie as tie
+
+bad-number-requires : tie.Need-bad-number-requires
+bad-number-requires c κs = search needs
+
+returns : tie.Need-returns
+unfolding newcomerNo
+returns c = rw (← c .before .bad-number .ensures, c .if1 .taken) refl
+
+good-number : (c : tie.Else1) → badNumber (c .before .before .args .c .number) ≡ false
+good-number c = sym (c .before .bad-number .ensures) ∙ c .if1 .left
+
+returns-2 : tie.Need-returns-2
+unfolding newcomerNo
+returns-2 c = rw (good-number (c .before .before .before), le-leb _ _ (c .if2 .taken)) refl
+
+returns-3 : tie.Need-returns-3
+unfolding newcomerNo
+returns-3 c =
+    let at-end = c .before .before .before in
+    rw (good-number (at-end .before .before .before), lt-leb _ _ (at-end .if2 .left), lt-ltb _ _ (c .if3 .taken)) refl
+
+returns-4 : tie.Need-returns-4
+unfolding newcomerNo
+returns-4 c =
+    let at-end = c .before .before .before in
+    rw (good-number (at-end .before .before .before), lt-leb _ _ (at-end .if2 .left), le-ltb _ _ (c .if3 .left)) refl
+
+pub newcomer-refusal-spec : {M : Type 1} → statement M
+newcomer-refusal-spec =
+    tie.close (tie.spec bad-number-requires returns returns-2 returns-3 returns-4)

@@ -1,0 +1,26 @@
+-- The limits of document 01, by name: "Lane end: 1 to 2³¹. Speed limit V: 1 to 8,192. Carrier numbers: 1 to 65,535. At most 64 carriers.
+-- Cycle number: 64 bits".
+use Prim.Native.Nat.{ℕ}
+
+-- the last surface code
+abbrev pub lastSurface : ℕ
+lastSurface = 7
+
+abbrev pub farthestEnd : ℕ
+farthestEnd = 2147483648
+
+abbrev pub fastest : ℕ
+fastest = 8192
+
+abbrev pub highestNumber : ℕ
+highestNumber = 65535
+
+abbrev pub mostCarriers : ℕ
+mostCarriers = 64
+
+abbrev pub lastCycle : ℕ
+lastCycle = 18446744073709551615
+
+-- the longest lane text: a line for the number of carriers, and of each at most 5, 10 and 4 digits
+abbrev pub longestText : ℕ
+longestText = 2248

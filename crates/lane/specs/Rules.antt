@@ -1,0 +1,51 @@
+-- Document 01, "Calls": the ranges of a start's and a newcomer's values, and the rules of a lane behind check 21.
+use Prim.Native.Nat.{ℕ}
+use mathlib.Core.Bool.{Bool, not, _||_, cond}
+use mathlib.Core.List.{List}
+use lib.Dec.{eqb, leb, ltb}
+use Rattle.lane.specs.declared.Carrier.{Carrier}
+use Rattle.lane.specs.declared.Road.{Road}
+use Rattle.lane.specs.Limits.{lastSurface, farthestEnd, fastest, highestNumber, mostCarriers}
+use Rattle.lane.specs.Surface.{rowIn}
+use Rattle.lane.specs.State.{State}
+use Rattle.lane.specs.Safety.{laneSafe, anyOf, repeats}
+
+-- outside its range, ends included
+abbrev pub outsideOf : (low high n : ℕ) → Bool
+outsideOf low high n = ltb n low || ltb high n
+
+-- "1 surface above 7; 2 lane end outside its range; 3 limit outside its range"
+unfoldable pub roadNo : Road → ℕ
+roadNo road =
+    cond (ltb lastSurface (road .surface)) 1
+    (cond (outsideOf 1 farthestEnd (road .end)) 2 (cond (outsideOf 1 fastest (road .limit)) 3 0))
+
+-- "4 carrier number 0": a number that no carrier can have
+abbrev pub badNumber : ℕ → Bool
+badNumber = outsideOf 1 highestNumber
+
+-- "6 speed above the limit"
+abbrev pub tooFast : Road → Carrier → Bool
+tooFast road c = ltb (road .limit) (c .speed)
+
+-- a carrier that breaks a rule by itself: "a number 0 .., a speed above the limit"
+unfoldable pub unlawful : Road → Carrier → Bool
+unlawful road c = badNumber (c .number) || tooFast road c
+
+-- "a position at or past the end"; "A carrier at or past the lane end afterwards is gone"
+unfoldable pub pastEnd : Road → Carrier → Bool
+pastEnd road c = leb (road .end) (c .position)
+
+-- carriers of which one breaks a rule: by itself, past the end, by a number that stands twice, or not safe
+unfoldable pub faulty : Road → List Carrier → Bool
+faulty road cs = anyOf (λ c. unlawful road c || pastEnd road c) cs || repeats cs || not (laneSafe (rowIn road) cs)
+
+-- "21 never started, or the lane handed in breaks a rule of this paper (a surface or bound outside its range, more than 64 carriers,
+-- a number 0 or twice, a speed above the limit, a position at or past the end, a lane not safe)"
+unfoldable pub broken : State → Bool
+broken s =
+    not (s .started) || not (eqb (roadNo (s .road)) 0) || ltb mostCarriers (s .count) || faulty (s .road) (s .carriers)
+
+-- a newcomer's own values: "4 carrier number 0; 5 position at or past the end; 6 speed above the limit"
+unfoldable pub newcomerNo : Road → Carrier → ℕ
+newcomerNo road c = cond (badNumber (c .number)) 4 (cond (leb (road .end) (c .position)) 5 (cond (tooFast road c) 6 0))

@@ -1,0 +1,148 @@
+// Which word of a lane is where: no other module knows.
+ghost use mathlib.Core.Path.{_≡_};
+ghost use mathlib.Core.List.{[]};
+ghost use Prim.Native.Nat.{_<_};
+ghost use lib.ListN.{length, getD, set};
+ghost use Rattle.lane.specs.Layout.{figuresIn, recordsIn};
+ghost use Rattle.lane.specs.Calls.{none};
+use crate::Carrier;
+use crate::Lane;
+use crate::Road;
+
+// The row of the first record.
+const FIRST: usize = 25;
+
+// What the first row holds.
+pub(crate) struct Figures {
+    pub(crate) started: bool,
+    pub(crate) road: Road,
+    pub(crate) cycle: u64,
+    pub(crate) count: usize,
+}
+
+// The length of an array behind a reference is known where it is lent as a slice. No code is left of it.
+fn as_rows(s: &[[u64; 8]]) {}
+
+// There are 64 records, and a first row.
+pub(crate) fn sized(l: &Lane)
+    ensures { λ r. ⌜ (length (now (l .entry)) ≡ 89) × (length (recordsIn (now (l .entry))) ≡ 64) ⌝ }
+{
+    as_rows(l);
+}
+
+pub(crate) fn figures_of(l: &Lane) -> Figures
+    ensures { λ r. ⌜ r ≡ figuresIn (now (l .entry)) ⌝ }
+    ensures { λ r. ⌜ length (recordsIn (now (l .entry))) ≡ 64 ⌝ }
+{
+    sized(l);
+    Figures {
+        started: l[0][0] == 1,
+        road: Road {
+            surface: l[0][1],
+            end: l[0][2],
+            limit: l[0][3],
+        },
+        cycle: l[0][4],
+        count: l[0][5] as usize,
+    }
+}
+
+// The first row put anew; its free words stay.
+pub(crate) fn put_figures(l: &mut Lane, f: Figures)
+    ensures { λ r. ⌜ figuresIn (now (l .exit)) ≡ f ⌝ }
+    ensures { λ r. ⌜ recordsIn (now (l .exit)) ≡ recordsIn (now (l .entry)) ⌝ }
+{
+    sized(l);
+    let started = if f.started { 1 } else { 0 };
+    let road = f.road;
+    let row = l[0];
+    l[0] = [
+        started,
+        road.surface,
+        road.end,
+        road.limit,
+        f.cycle,
+        f.count as u64,
+        row[6],
+        row[7],
+    ];
+}
+
+// The cycle number and the count put anew.
+pub(crate) fn put_count(l: &mut Lane, cycle: u64, count: usize)
+    ensures { λ r. ⌜ figuresIn (now (l .exit)) ≡ record { started = figuresIn (now (l .entry)) .started; road = figuresIn (now (l .entry)) .road; cycle = cycle; count = count } ⌝ }
+    ensures { λ r. ⌜ recordsIn (now (l .exit)) ≡ recordsIn (now (l .entry)) ⌝ }
+{
+    sized(l);
+    let row = l[0];
+    l[0] = [
+        row[0],
+        row[1],
+        row[2],
+        row[3],
+        cycle,
+        count as u64,
+        row[6],
+        row[7],
+    ];
+}
+
+// The record at a place.
+pub(crate) fn carrier_at(l: &Lane, place: usize) -> Carrier
+    requires { ⌜ place < 64 ⌝ }
+    ensures { λ r. ⌜ r ≡ getD (recordsIn (now (l .entry))) place none ⌝ }
+{
+    let row = l[FIRST + place];
+    Carrier {
+        number: row[0],
+        position: row[1],
+        speed: row[2],
+    }
+}
+
+// A record put at a place; the free words of its row stay, which takes no instruction.
+pub(crate) fn put_carrier(l: &mut Lane, place: usize, c: Carrier)
+    requires { ⌜ place < 64 ⌝ }
+    ensures { λ r. ⌜ figuresIn (now (l .exit)) ≡ figuresIn (now (l .entry)) ⌝ }
+    ensures { λ r. ⌜ recordsIn (now (l .exit)) ≡ set (recordsIn (now (l .entry))) place c ⌝ }
+{
+    let row = l[FIRST + place];
+    l[FIRST + place] = [
+        c.number,
+        c.position,
+        c.speed,
+        row[3],
+        row[4],
+        row[5],
+        row[6],
+        row[7],
+    ];
+}
+
+// The record at one place copied to another.
+pub(crate) fn copy_record(l: &mut Lane, from: usize, to: usize)
+    requires { ⌜ (from < 64) × (to < 64) ⌝ }
+    ensures { λ r. ⌜ figuresIn (now (l .exit)) ≡ figuresIn (now (l .entry)) ⌝ }
+    ensures { λ r. ⌜ recordsIn (now (l .exit)) ≡ set (recordsIn (now (l .entry))) to (getD (recordsIn (now (l .entry))) from none) ⌝ }
+{
+    let c = carrier_at(l, from);
+    put_carrier(l, to, c);
+}
+
+// The record at one place put at another with a position and a speed of its own. The number is read from its row: held by the caller it costs more.
+pub(crate) fn move_record(l: &mut Lane, from: usize, to: usize, position: u64, speed: u64)
+    requires { ⌜ (from < 64) × (to < 64) ⌝ }
+    ensures { λ r. ⌜ figuresIn (now (l .exit)) ≡ figuresIn (now (l .entry)) ⌝ }
+    ensures { λ r. ⌜ recordsIn (now (l .exit)) ≡ set (recordsIn (now (l .entry))) to (record { number = getD (recordsIn (now (l .entry))) from none .number; position = position; speed = speed }) ⌝ }
+{
+    let number = l[FIRST + from][0];
+    put_carrier(
+        l,
+        to,
+        Carrier {
+            number,
+            position,
+            speed,
+        },
+    );
+}

@@ -1,0 +1,75 @@
+//! Check 21: the rules that a lane handed in must keep.
+
+use super::{Carrier, Lane, PLACES};
+use crate::headway::safe_behind;
+use crate::refusal::Refusal;
+use crate::road::Road;
+use crate::stopping::Stopping;
+use crate::surface::Row;
+use std::ops::RangeInclusive;
+
+/// The numbers that carriers may have.
+pub const NUMBERS: RangeInclusive<u64> = 1..=65_535;
+
+/// The numbers that a walk has met, by their low bits: the last place of each
+/// sort, and for each place the one before of its sort, all counted from 1.
+struct Met {
+    last: [u8; Met::SORTS],
+    before: [u8; PLACES],
+}
+
+impl Met {
+    const SORTS: usize = 64;
+
+    const NONE: Met = Met {
+        last: [0; Met::SORTS],
+        before: [0; PLACES],
+    };
+
+    /// Takes in the number at `place`; whether it stands at an earlier one.
+    fn again(&mut self, carriers: &[Carrier], place: usize) -> bool {
+        let number = carriers[place].number;
+        let last = &mut self.last[number as usize % Met::SORTS];
+        let mut earlier = *last;
+        self.before[place] = earlier;
+        *last = place as u8 + 1;
+        while earlier > 0 {
+            let place = usize::from(earlier) - 1;
+            if carriers[place].number == number {
+                return true;
+            }
+            earlier = self.before[place];
+        }
+        false
+    }
+}
+
+impl Carrier {
+    /// Whether the carrier by itself breaks no rule.
+    fn is_lawful(&self, road: &Road) -> bool {
+        NUMBERS.contains(&self.number) && self.position < road.end && self.speed <= road.limit
+    }
+}
+
+impl Lane {
+    /// The surface row of a started lane that breaks no rule; else refusal 21.
+    pub fn sound_row<S: Stopping>(&self) -> Result<&'static Row, Refusal> {
+        match self.road.row() {
+            Ok(row) if self.started && self.count <= PLACES as u64 && self.is_sound::<S>(row) => {
+                Ok(row)
+            }
+            _ => Err(Refusal::LaneUnsound),
+        }
+    }
+
+    /// Each carrier is lawful, has a number of its own and is safe behind the
+    /// next one ahead, which was found lawful before.
+    fn is_sound<S: Stopping>(&self, row: &Row) -> bool {
+        let (carriers, mut met) = (self.present(), Met::NONE);
+        (0..carriers.len()).all(|place| {
+            carriers[place].is_lawful(&self.road)
+                && (place == 0 || safe_behind::<S>(row, carriers[place], carriers[place - 1]))
+                && !met.again(carriers, place)
+        })
+    }
+}

@@ -1,0 +1,39 @@
+//! Words above the width that a figure of the paper has: a host may hand in
+//! any 64 bits.
+
+use super::Random;
+use crate::call::Call;
+
+/// The word with a bit above 32 set, or with all.
+pub fn wide(random: &mut Random, word: u64) -> u64 {
+    let bit = 1 << (32 + random.below(32));
+    random.pick(&[word | bit, word | bit, bit, u64::MAX])
+}
+
+/// The number with a bit above 16 set, or with all.
+pub fn wide_number(random: &mut Random, number: u64) -> u64 {
+    let bit = 1 << (16 + random.below(48));
+    random.pick(&[number | bit, number | bit, bit, u64::MAX])
+}
+
+/// The call with one argument that no text can hold; a cycle and a lane text
+/// stay as they are.
+pub fn widened(random: &mut Random, call: &Call) -> Call {
+    let mut call = call.clone();
+    let argument = random.below(3);
+    match &mut call {
+        Call::Start { road, .. } => match argument {
+            0 => road.surface = wide(random, road.surface),
+            1 => road.end = wide(random, road.end),
+            _ => road.limit = wide(random, road.limit),
+        },
+        Call::Enter(carrier) => match argument {
+            0 => carrier.number = wide_number(random, carrier.number),
+            1 => carrier.position = wide(random, carrier.position),
+            _ => carrier.speed = wide(random, carrier.speed),
+        },
+        Call::Leave { number } | Call::Read { number } => *number = wide_number(random, *number),
+        Call::Cycle { .. } | Call::LaneText { .. } => (),
+    }
+    call
+}

@@ -1,0 +1,29 @@
+//! What a start gives of the road, and the ranges it must keep to.
+
+use crate::refusal::Refusal;
+use crate::surface::{self, Row};
+use std::ops::RangeInclusive;
+
+/// Where a lane may end.
+pub const ENDS: RangeInclusive<u64> = 1..=1 << 31;
+
+/// The speed limits a lane may have.
+pub const LIMITS: RangeInclusive<u64> = 1..=8_192;
+
+/// A surface code, the lane's end and its speed limit; any words at first.
+#[derive(Clone, Copy, Debug, Default, PartialEq, Eq)]
+pub struct Road {
+    pub surface: u64,
+    pub end: u64,
+    pub limit: u64,
+}
+
+impl Road {
+    /// The surface's row, if every figure keeps its range.
+    pub fn row(&self) -> Result<&'static Row, Refusal> {
+        let row = surface::row(self.surface).ok_or(Refusal::SurfaceUnknown)?;
+        Refusal::EndOutOfRange.when(!ENDS.contains(&self.end))?;
+        Refusal::LimitOutOfRange.when(!LIMITS.contains(&self.limit))?;
+        Ok(row)
+    }
+}
