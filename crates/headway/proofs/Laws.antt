@@ -12,12 +12,11 @@ use lib.Signed.{_≤ℤ_, _<ℤ_, ≤ℤ-refl}
 use Rattle.headway.specs.Motion.{speedAfter, positionAfter, positionAt}
 use Rattle.headway.specs.Stopping.{braking, slowed, gained, stoppingDistance, safeBehind}
 use Rattle.headway.specs.Wishes.{restsBehind}
-use Rattle.headway.specs.Totals.{restOf, movedOf, safeOf, restsBelow, passesOf}
-use Rattle.headway.specs.declared.Moved.the-variants.{To}
+use Rattle.headway.specs.Totals.{restOf, safeOf, passesOf}
 use Rattle.headway.proofs.Integers.{pos-minus, lt-pos, neg-le}
 use Rattle.headway.proofs.Motion.{speed-is, position-is, trajectory-is, from-to, braked, driven, slower}
-use Rattle.headway.proofs.Signed.{is-speed, moved-is}
-use Rattle.headway.proofs.Totals.{two-rates, rest-is, below-is}
+use Rattle.headway.proofs.Signed.{is-speed}
+use Rattle.headway.proofs.Totals.{two-rates, rest-is}
 use Rattle.headway.proofs.Stopping as S
 use Rattle.headway.proofs.Pair.{braking-gains, weighted, stops-apart, middle-apart, ends-apart}
 
@@ -69,18 +68,6 @@ pub passes-is : (b B p v : ℕ) (w : ℤ) (pL vL u : ℕ) → 1 ≤ b → 1 ≤ 
     → passesOf b B p v w pL vL ≡ restsBehind b B p v w pL vL
 unfolding passesOf
 passes-is b B p v w pL vL u hb hB e h = rw (two-rates b B (λ f. omega arith) (λ f. omega arith), is-speed v w u e h) refl
-
-pub moved-to : (p v : ℕ) (a : ℤ) (u : ℕ) → pos v +ℤ a ≡ pos u → u < 2 ^ 32
-    → movedOf p v a ≡ To (positionAfter p v a) (speedAfter v a)
-moved-to = moved-is
-
--- the test of a wish that leads to the speed u, by where the carrier ahead rests
-pub tested-by-rest : (b B p v : ℕ) (w : ℤ) (pL vL u : ℕ) → 1 ≤ b → 1 ≤ B → pos v +ℤ w ≡ pos u
-    → restsBelow b (positionAfter p v (pos u -ℤ pos v)) u (restOf B pL vL) ≡ restsBehind b B p v w pL vL
-unfolding restsBehind
-tested-by-rest b B p v w pL vL u hb hB e =
-    below-is b (positionAfter p v (pos u -ℤ pos v)) u (restOf B pL vL) (λ z. omega arith)
-    ∙ rw (reached-after p v w u e, speed-is v w u e, ← rest-is B pL vL (λ z. omega arith)) refl
 
 -- ---- the stopping distance
 

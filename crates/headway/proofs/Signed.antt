@@ -51,7 +51,7 @@ pub is-speed : (v : ℕ) (a : ℤ) (u : ℕ) → pos v +ℤ a ≡ pos u → u < 
 unfolding isSpeed
 is-speed v a u e h = rw (e, le-leb 0 u (omega arith), lt-ltb u 4294967296 h) refl
 
-pub moved-is : (p v : ℕ) (a : ℤ) (u : ℕ) → pos v +ℤ a ≡ pos u → u < 2 ^ 32 → movedOf p v a ≡ To (positionAfter p v a) (speedAfter v a)
+moved-is : (p v : ℕ) (a : ℤ) (u : ℕ) → pos v +ℤ a ≡ pos u → u < 2 ^ 32 → movedOf p v a ≡ To (positionAfter p v a) (speedAfter v a)
 unfolding movedOf
 moved-is p v a u e h = rw (is-speed v a u e h) refl
 

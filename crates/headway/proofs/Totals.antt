@@ -95,7 +95,7 @@ module _ (c p v bound : ℕ) where
   never-below-at-0 e = rw e refl
 
   module _ (h : c ≡ 0 → ⊥) where
-    pub below-is : restsBelow c p v bound ≡ ltb (p + stoppingDistance c v) bound
+    below-is : restsBelow c p v bound ≡ ltb (p + stoppingDistance c v) bound
     unfolding restsBelow
     below-is = rw (lt-ltb 0 c (omega arith)) refl
 

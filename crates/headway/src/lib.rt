@@ -48,7 +48,7 @@ pub fn rest(rate: u32, position: u32, speed: u32) -> u64
 }
 
 // A carrier that brakes at the rate from now on comes to rest below a bound; never at a rate of 0.
-pub fn rests_below(rate: u32, position: u64, speed: u32, bound: u64) -> bool
+fn rests_below(rate: u32, position: u64, speed: u32, bound: u64) -> bool
     ensures { λ r. ⌜ r ≡ restsBelow rate position speed bound ⌝ }
 {
     if rate == 0 {

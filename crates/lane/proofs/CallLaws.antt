@@ -18,12 +18,12 @@ use Rattle.lane.specs.Wishes.{anyOutside}
 use Rattle.lane.specs.Calls.{none, withCarriers, begunState, aheadOf, walk, gapNo, placeNo, enterNo, insertAt, enteredState, namedNo, placeOf, removeAt, leftState, readyNo, cycleNo}
 use Rattle.lane.specs.Listing.{laneText, textNo}
 use Rattle.lane.specs.Call.{Call, start-call, enter-call, leave-call, cycle-call, read-call, text-call, Meaning, meaning, callNo, acceptedState, callState, Kept}
-use Rattle.lane.proofs.calls.Answers.{accepted-sound}
+use Rattle.lane.proofs.calls.Answers.{accepted-changes, accepted-sound}
 use Rattle.lane.proofs.checks.Soundness.{Sound, sound, sound-holds}
 use Rattle.lane.proofs.calls.Order.{lane-order}
 use Rattle.lane.proofs.calls.Keeps.{start-keeps, enter-keeps, leave-keeps, cycle-keeps}
--- "Read, lane text and every refused call: nothing changes."; what is answered, refused or accepted
-pub use Rattle.lane.proofs.calls.Answers.{refused-changes-nothing, refused-answers, accepted-changes, accepted-answers, answer-number}
+-- "Read, lane text and every refused call: nothing changes."; what number is answered
+pub use Rattle.lane.proofs.calls.Answers.{refused-changes-nothing, answer-number}
 
 -- ---- of every call
 

@@ -100,7 +100,7 @@ pub(crate) fn convert(
     count: usize,
     sorts: &[u8],
     values: &[u32],
-    units: &mut [i64; 64],
+    units: &mut [i32; 64],
 ) -> u32
     requires { ⌜ readyNo (stateOf (now l)) count ≡ 0 ⌝ }
     ensures { λ r. ⌜ r ≡ ifAccepted (wishesNo count (now (sorts .entry)) (now (values .entry))) (cond (anyOutside (take count (recordsIn (now (l .entry)))) (wishesGiven count (now (sorts .entry)) (now (values .entry)))) 7 0) (wishesNo count (now (sorts .entry)) (now (values .entry))) ⌝ }

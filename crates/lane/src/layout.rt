@@ -87,6 +87,17 @@ pub(crate) fn put_count(l: &mut Lane, cycle: u64, count: usize)
     ];
 }
 
+// The record of no carrier.
+pub(crate) fn no_carrier() -> Carrier
+    ensures { λ r. ⌜ r ≡ none ⌝ }
+{
+    Carrier {
+        number: 0,
+        position: 0,
+        speed: 0,
+    }
+}
+
 // The record at a place.
 pub(crate) fn carrier_at(l: &Lane, place: usize) -> Carrier
     requires { ⌜ place < 64 ⌝ }

@@ -43,8 +43,12 @@ pub const AT: [u8; 3] = *b"at=";
 
 pub const SPEED: [u8; 6] = *b"speed=";
 
-// A lane's words; `layout` says which is where.
-pub type Lane = [[u64; 8]; 89];
+// A lane's words, in rows; `layout` says which is where.
+pub const ROWS: usize = 89;
+
+pub const ROW_WORDS: usize = 8;
+
+pub type Lane = [[u64; ROW_WORDS]; ROWS];
 
 #[repr(C)]
 pub struct Carrier {
@@ -104,7 +108,7 @@ pub struct ReadOut {
 pub fn empty(l: &mut Lane)
     ensures { λ r. ⌜ now (l .exit) ≡ emptyWords ⌝ }
 {
-    *l = [[0; 8]; 89];
+    *l = [[0; ROW_WORDS]; ROWS];
 }
 
 pub fn start(l: &mut Lane, road: Road, first: u64) -> u32
@@ -192,7 +196,7 @@ pub fn cycle(l: &mut Lane, count: usize, wishes: [Wish; 64]) -> Cycled
     if no != 0 {
         return motion::refused(no);
     }
-    let mut units = [0i64; 64];
+    let mut units = [0i32; 64];
     if motion::convert(l, count, wishes, &mut units) {
         return motion::refused(7);
     }
@@ -207,7 +211,7 @@ pub fn cycle_given(l: &mut Lane, count: usize, sorts: &[u8], values: &[u32]) -> 
     if no != 0 {
         return motion::refused(no);
     }
-    let mut units = [0i64; 64];
+    let mut units = [0i32; 64];
     let unfit = given::convert(l, count, sorts, values, &mut units);
     if unfit != 0 {
         return motion::refused(unfit);

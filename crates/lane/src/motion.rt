@@ -43,29 +43,29 @@ pub(crate) fn units_in(c: Converted) -> i64
 }
 
 // The length of an array behind a reference is known where it is lent as a slice. No code is left of it.
-fn as_slice(s: &[i64]) {}
+fn as_slice(s: &[i32]) {}
 
 // There are 64 units.
-pub(crate) fn sized(units: &[i64; 64])
+pub(crate) fn sized(units: &[i32; 64])
     ensures { λ r. ⌜ length (now (units .entry)) ≡ 64 ⌝ }
 {
     as_slice(units);
 }
 
 // The wish of the carrier at a place put in units; true where it is a float outside its range.
-pub(crate) fn convert_one(l: &Lane, place: usize, w: Wish, units: &mut [i64; 64]) -> bool
-    requires { ⌜ (place < 64) × (getD (recordsIn (now l)) place none .speed < 4294967296) ⌝ }
+pub(crate) fn convert_one(l: &Lane, place: usize, w: Wish, units: &mut [i32; 64]) -> bool
+    requires { ⌜ (place < 64) × (getD (recordsIn (now l)) place none .speed ≤ 8192) ⌝ }
     ensures { λ r. ⌜ r ≡ isOutside (unitsOf w (getD (recordsIn (now (l .entry))) place none .speed)) ⌝ }
     ensures { λ r. ⌜ now (units .exit) ≡ set (now (units .entry)) place (unitsIn (unitsOf w (getD (recordsIn (now (l .entry))) place none .speed))) ⌝ }
 {
     let c = layout::carrier_at(l, place);
     let converted = wish::units(w, rules::narrow(c.speed));
-    units[place] = units_in(converted);
+    units[place] = units_in(converted) as i32;
     is_outside(converted)
 }
 
 // The wishes of `count` carriers in units; true where one is a float outside its range.
-pub(crate) fn convert(l: &Lane, count: usize, wishes: [Wish; 64], units: &mut [i64; 64]) -> bool
+pub(crate) fn convert(l: &Lane, count: usize, wishes: [Wish; 64], units: &mut [i32; 64]) -> bool
     requires { ⌜ readyNo (stateOf (now l)) count ≡ 0 ⌝ }
     ensures { λ r. ⌜ r ≡ anyOutside (take count (recordsIn (now (l .entry)))) (take count wishes) ⌝ }
     ensures { λ r. ⌜ (r ≡ false → take count (now (units .exit)) ≡ wishedUnits (take count (recordsIn (now (l .entry)))) (take count wishes)) ⌝ }
@@ -106,17 +106,14 @@ fn wish_stands(row: Row, foremost: bool, ahead: Carrier, c: Carrier, w: i64) -> 
     if w <= headway::braking(rate, v) {
         return true;
     }
-    let next = next_speed(c, w);
-    let rest = headway::rest(
+    headway::rests_behind(
+        rate,
         row.hardest,
+        rules::reach_to(ahead, c),
+        v,
+        w,
         rules::narrow(ahead.position),
         rules::narrow(ahead.speed),
-    );
-    headway::rests_below(
-        rate,
-        headway::reached(rules::reach_to(ahead, c), v, next),
-        next,
-        rest,
     )
 }
 
@@ -181,7 +178,7 @@ fn keep(l: &mut Lane, road: Road, from: usize, left: usize, c: Carrier) -> usize
 }
 
 // All carriers driven: a record is read before the one that takes its place is put.
-fn drive_all(l: &mut Lane, road: Road, count: usize, units: &[i64; 64]) -> Left
+fn drive_all(l: &mut Lane, road: Road, count: usize, units: &[i32; 64]) -> Left
     requires { ⌜ (count ≤ 64) × ((roadNo road ≡ 0) × (faulty road (take count (recordsIn (now l))) ≡ false)) ⌝ }
     requires { ⌜ length (recordsIn (now l)) ≡ 64 ⌝ }
     ensures { λ r. ⌜ r .word ≡ wordOf (replacedIn (drives (rowIn road) (road .limit) nobody (take count (recordsIn (now (l .entry)))) (take count (now (units .entry))))) ⌝ }
@@ -189,19 +186,15 @@ fn drive_all(l: &mut Lane, road: Road, count: usize, units: &[i64; 64]) -> Left
     ensures { λ r. ⌜ (r .count ≤ count) × ((figuresIn (now (l .exit)) ≡ figuresIn (now (l .entry))) × (length (recordsIn (now (l .exit))) ≡ 64)) ⌝ }
 {
     sized(units);
+    // Nobody is ahead of the foremost carrier, so that any record will do at first.
+    let mut ahead = layout::no_carrier();
     let row = rows::row_in(road);
     let mut left: usize = 0;
     let mut word: u64 = 0;
-    // Nobody is ahead of the foremost carrier, so that any record will do at first.
-    let mut ahead = Carrier {
-        number: 0,
-        position: 0,
-        speed: 0,
-    };
     let mut i: usize = 0;
     while i < count {
         let c = layout::carrier_at(l, i);
-        let d = drive_one(row, road.limit, i == 0, ahead, c, units[i]);
+        let d = drive_one(row, road.limit, i == 0, ahead, c, units[i] as i64);
         word = marked(word, i, d.replaced);
         left = keep(l, road, i, left, move_one(c, d.acceleration));
         ahead = c;
@@ -222,7 +215,7 @@ pub(crate) fn refused(no: u32) -> Cycled
 }
 
 // A cycle of a lane that is ready for it, with the wishes in units.
-pub(crate) fn run(l: &mut Lane, count: usize, units: &[i64; 64]) -> Cycled
+pub(crate) fn run(l: &mut Lane, count: usize, units: &[i32; 64]) -> Cycled
     requires { ⌜ readyNo (stateOf (now l)) count ≡ 0 ⌝ }
     ensures { λ r. ⌜ r .no ≡ 0 ⌝ }
     ensures { λ r. ⌜ r .word ≡ wordOf (replacedIn (drivesWith (stateOf (now (l .entry))) (take count (now (units .entry))))) ⌝ }

@@ -125,7 +125,14 @@ fn safe(row: Row, ahead: Carrier, c: Carrier) -> bool
     requires { ⌜ (c .position < 4294967296) × ((c .speed < 4294967296) × ((ahead .position < 4294967296) × (ahead .speed < 4294967296))) ⌝ }
     ensures { λ r. ⌜ r ≡ safeWith row (leader ahead) c ⌝ }
 {
-    safe_at(row, ahead, c, rest(guaranteed_rate(row, c), c))
+    headway::safe_behind(
+        guaranteed_rate(row, c),
+        row.hardest,
+        reach_to(ahead, c),
+        narrow(c.speed),
+        narrow(ahead.position),
+        narrow(ahead.speed),
+    )
 }
 
 // Some carrier from a place on has the number. Its place is not asked for: a search with no place to tell is shorter.
@@ -174,14 +181,10 @@ fn any_fault(l: &Lane, road: Road, count: usize) -> bool
     requires { ⌜ (count ≤ 64) × ((length (recordsIn (now l)) ≡ 64) × (roadNo road ≡ 0)) ⌝ }
     ensures { λ r. ⌜ r ≡ faulty road (take count (recordsIn (now (l .entry)))) ⌝ }
 {
+    let mut behind = layout::no_carrier();
     let row = rows::row_in(road);
     let mut first: [u8; 64] = [64; 64];
     let mut next: [u8; 64] = [64; 64];
-    let mut behind = Carrier {
-        number: 0,
-        position: 0,
-        speed: 0,
-    };
     let mut stop: u64 = 0;
     let mut i = count;
     while 0 < i {

@@ -3,7 +3,7 @@ mod pipe;
 
 // The blocks in turn, until one stops the program, or the output is closed. A step that does not stop takes at least one byte.
 fn run(input: &[u8]) {
-    let mut lane = [[0u64; 8]; 89];
+    let mut lane = [[0u64; lane::ROW_WORDS]; lane::ROWS];
     lane::empty(&mut lane);
     let mut space = [0u8; console::ANSWER_SPACE];
     let mut at: usize = 0;

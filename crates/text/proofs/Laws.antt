@@ -154,14 +154,20 @@ module _ (at : ℕ) (first second buffer : List ℕ) (room : at + length first +
 pub written-one : (at byte : ℕ) (buffer : List ℕ) → at < length buffer → written at (byte ∷ []) buffer ≡ set buffer at byte
 written-one at byte buffer h = written-fits at (byte ∷ []) buffer (omega arith) ∙ rw (append-assoc, add-one) (sym (set-split buffer at byte h))
 
--- a line's key, value and newline, written one after the other
+-- what ends a line
+abbrev pub newline : List ℕ
+newline = 10 ∷ []
+
+-- a line's key, then its newline, then the value between them
 pub written-line : (at : ℕ) (key value buffer : List ℕ) → at + length (line key value) ≤ length buffer
-    → written (at + length key + length value) (10 ∷ []) (written (at + length key) value (written at key buffer)) ≡ written at (line key value) buffer
+    → written (at + length key) value (written (at + length key + length value) newline (written at key buffer)) ≡ written at (line key value) buffer
 unfolding line
 written-line at key value buffer room =
-    let e : length (key ++ value) ≡ length key + length value = length-append key value in
-    let r : at + length key + length value + 1 ≤ length buffer = omega (arith, e, length-append (key ++ value) (10 ∷ [])) in
-    rw (written-then at key value buffer (omega arith), add-assoc, ← e) (written-then at (key ++ value) (10 ∷ []) buffer (omega (arith, e)))
+    let e : length (key ++ value ++ newline) ≡ length key + length value + 1 = simp length-append in
+    let f : length (value ++ newline) ≡ length value + 1 = length-append value newline in
+    written-before (at + length key) value newline (written at key buffer) (rw length-written (omega (arith, e)))
+    ∙ written-then at key (value ++ newline) buffer (omega (arith, e, f))
+    ∙ ap (λ (t : List ℕ). written at t buffer) (sym (append-assoc key value newline))
 
 -- bytes put at a place and the place after them, as a function that puts them ensures it
 abbrev pub Put : (at : ℕ) (bytes buffer out : List ℕ) (end : ℕ) → Type 0

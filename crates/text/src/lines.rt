@@ -43,8 +43,10 @@ fn put_line(out: &mut [u8], at: usize, key: &[u8], base: u64, count: usize, n: u
         return at;
     }
     let value = put_bytes(out, at, key);
+    // Before the digits: the other way round it takes more instructions.
+    let next = put_bytes(out, value + count, b"\n");
     put_digits(out, value, base, count, n);
-    put_bytes(out, value + count, b"\n")
+    next
 }
 
 pub fn put_decimal_line(out: &mut [u8], at: usize, key: &[u8], n: u64) -> usize

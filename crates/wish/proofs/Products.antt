@@ -1,19 +1,21 @@
 -- The product of a float and a power of two is exact where it does not overflow: so the product of a float in its range is rounded as the exact product is. Assumes nothing.
 use mathlib.Core.Path.{_≡_, refl, sym, ap, _∙_, subst}
-use Prim.Native.Nat.{ℕ, zero, suc, _+_, _-_, _*_, _%_, _^_, _≤_, _<_}
+use Prim.Native.Nat.{ℕ, zero, suc, _+_, _-_, _*_, _%_, _^_, _≤_, _<_, zero-le}
 use native.Mathlib.Nat.{le-refl, le-trans, le-of-eq, lt-of-le-of-lt, mul-one, one-mul, mul-comm, mul-assoc, mul-right-comm, mul-le-mul-right, mul-lt-mul-of-pos-right, lt-of-mul-lt-mul-right}
+use native.Mathlib.Omega.{arith}
 use mathlib.Core.Bool.{Bool, true, false, _&&_, cond}
-use lib.IntN.{ℤ, pos, negsuc}
+use lib.IntN.{ℤ, pos, negsuc, _-ℤ_}
 use lib.Signed.{mag}
-use lib.Dec.{T, leb, ltb, eqb, leb→le, ltb→lt, eqb→eq, lit<}
+use lib.Dec.{T, leb, ltb, eqb, leb→le, ltb→lt, eqb→eq, lit<, lit≤}
 use lib.Pow.{pow-add, pow-pos}
 use lib.Ieee.{Float, nan, inf, fin, Format, binary32, prec, emax, low, up, down, round, mul, fits, unlike}
 use lib.Ieee.Digits.{back}
 use lib.Ieee.Fits.{down-pos, and-l, and-r}
 use lib.Ieee.Exact.{HasValue, round-exact}
 use Rattle.wish.specs.Rounding.{signed, roundedSize, roundedTimes}
-use Rattle.wish.specs.Units.{liesWithin, unitsWithin}
+use Rattle.wish.specs.Units.{liesWithin, unitsWithin, accelerationUnits, targetUnits, sizeIn}
 use Rattle.wish.specs.declared.Converted.the-variants.{Units, Outside}
+use Rattle.wish.proofs.Ints.{mag-minus}
 use Rattle.wish.proofs.Values.{pow-le-back, AtMost, at-most-of-value, range, in-range, rounded-value, rounded-at-most}
 
 -- ---- what a format's values are
@@ -122,3 +124,25 @@ module _ (s : Bool) (a i k j : ℕ) (ends : a * 2 ^ i ≤ 2 ^ k) (room : 2 ^ k *
 
   pub product-small : mag (roundedTimes (2 ^ j) x) ≤ 8192
   product-small = le-trans (rounded-at-most (2 ^ k) (2 ^ j) x (range s a i k ends x inside)) room
+
+-- ---- how large the units of a float are
+small-within : (lo hi x : Float) (z : ℤ) (n : ℕ) → (liesWithin lo hi x ≡ true → mag z ≤ n) → sizeIn (unitsWithin lo hi x z) ≤ n
+unfolding unitsWithin
+small-within lo hi x z n f = go (liesWithin lo hi x) f
+  where
+    go : (t : Bool) → (t ≡ true → mag z ≤ n) → sizeIn (cond t (Units z) Outside) ≤ n
+    go true g = g refl
+    go false g = zero-le
+
+module _ (x : Float) (v : ℕ) where
+  pub acceleration-small : sizeIn (accelerationUnits x) ≤ 32767 + v
+  unfolding accelerationUnits
+  acceleration-small =
+      small-within (fin true 1 (pos 4)) (fin false 1 (pos 4)) x (roundedTimes 16 x) (32767 + v)
+      (λ e. omega (arith, rounded-at-most 16 16 x (range true 1 4 4 (lit≤ tt) x e)))
+
+  pub target-small : sizeIn (targetUnits x v) ≤ 32767 + v
+  unfolding targetUnits
+  target-small =
+      small-within (fin false 0 (pos 0)) (fin false 1 (pos 6)) x (roundedTimes 128 x -ℤ pos v) (32767 + v)
+      (λ e. omega (arith, mag-minus (roundedTimes 128 x) v, rounded-at-most 64 128 x (range false 0 0 6 (lit≤ tt) x e)))

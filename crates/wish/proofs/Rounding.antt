@@ -1,10 +1,12 @@
 -- Rounding sees only the value of its fraction (`rounded-same`), and stays within a whole bound on it (`rounded-le`): all that other proofs use. The laws below 1 are for `rounded_size`. Assumes nothing.
-use mathlib.Core.Path.{_≡_, sym, subst}
-use Prim.Native.Nat.{ℕ, zero, suc, _+_, _-_, _*_, _/_, _≤_, _<_, zero-le}
-use native.Mathlib.Nat.{le-trans, le-of-eq, le-antisymm, le-of-suc-le-suc, mul-right-comm, mul-le-mul-right, le-of-mul-le-mul-right, div-lt-iff-lt-mul, div-add-mod', mod-lt, suc-mul, div-eq-of-lt}
+use mathlib.Core.Path.{_≡_, sym, ap, _∙_, subst}
+use Prim.Native.Nat.{ℕ, zero, suc, _+_, _-_, _*_, _/_, _^_, _≤_, _<_, zero-le, min}
+use native.Mathlib.Nat.{le-trans, le-of-eq, le-antisymm, le-of-suc-le-suc, mul-right-comm, mul-le-mul-right, le-of-mul-le-mul-right, div-lt-iff-lt-mul, div-add-mod', mod-lt, suc-mul, div-eq-of-lt, lt-of-lt-of-le}
+use native.Mathlib.Decide.{decLt}
 use native.Mathlib.Omega.{arith}
 use mathlib.Core.Bool.{Bool, true, false}
 use lib.Ieee.Nearest.{div-same}
+use lib.Pow.{pow-mono}
 use Rattle.wish.specs.Rounding.{roundedSize}
 
 -- ---- n / d rounded up
@@ -45,14 +47,14 @@ rounded-le false n d k D h = le-of-suc-le-suc (div-lt-iff-lt-mul D .1 (subst (λ
 rounded-le true n d k D h = ceil-le n d k D h
 
 -- ---- a fraction below 1
-pub rounded-small : (n d : ℕ) → n < d → roundedSize false n d ≡ 0
+rounded-small : (n d : ℕ) → n < d → roundedSize false n d ≡ 0
 unfolding roundedSize
 rounded-small n d h = div-eq-of-lt h
 
-pub rounded-none : (s : Bool) (d : ℕ) → 0 < d → roundedSize s 0 d ≡ 0
+rounded-none : (s : Bool) (d : ℕ) → 0 < d → roundedSize s 0 d ≡ 0
 rounded-none s d D = le-antisymm (rounded-le s 0 d 0 D zero-le) zero-le
 
-pub rounded-one : (n d : ℕ) → 0 < n → n < d → roundedSize true n d ≡ 1
+rounded-one : (n d : ℕ) → 0 < n → n < d → roundedSize true n d ≡ 1
 unfolding roundedSize
 rounded-one n d N h =
     le-antisymm (ceil-le n d 1 (omega arith) (omega arith)) (reach (ceil n d) (ceil-ge n d (omega arith)))
@@ -60,3 +62,19 @@ rounded-one n d N h =
     reach : (k : ℕ) → n ≤ k * d → 1 ≤ k
     reach zero g = omega arith
     reach (suc k) g = omega arith
+
+-- over one denominator as over another
+below-one : (s : Bool) (n d e : ℕ) → n < d → n < e → roundedSize s n d ≡ roundedSize s n e
+below-one false n d e h k = rounded-small n d h ∙ sym (rounded-small n e k)
+below-one true zero d e h k = rounded-none true d h ∙ sym (rounded-none true e k)
+below-one true (suc n) d e h k = rounded-one (suc n) d (omega arith) h ∙ sym (rounded-one (suc n) e (omega arith) k)
+
+-- so that no power past 2 ^ 24 counts for a number below it
+pub rounded-enough : (s : Bool) (n k : ℕ) → n < 16777216 → roundedSize s n (2 ^ min k 24) ≡ roundedSize s n (2 ^ k)
+rounded-enough s n k h = go (decLt k 24)
+  where
+    go : Dec (k < 24) → roundedSize s n (2 ^ min k 24) ≡ roundedSize s n (2 ^ k)
+    go (yes l) = let e : min k 24 ≡ k = omega arith in ap (λ (x : ℕ). roundedSize s n (2 ^ x)) e
+    go (no l) =
+        let e : min k 24 ≡ 24 = omega arith in
+        ap (λ (x : ℕ). roundedSize s n (2 ^ x)) e ∙ below-one s n (2 ^ 24) (2 ^ k) h (lt-of-lt-of-le h (pow-mono {i = 24} (omega arith)))

@@ -3,6 +3,7 @@ use Prim.Native.Nat.{ℕ}
 use mathlib.Core.Bool.{Bool, true, false, _&&_, cond}
 use lib.IntN.{ℤ, pos, _-ℤ_}
 use lib.Ieee.{Float, fin, le}
+use lib.Signed.{mag}
 use Rattle.wish.specs.Rounding.{roundedTimes}
 use Rattle.wish.specs.declared.Converted.{Converted}
 use Rattle.wish.specs.declared.Converted.the-variants.{Units, Outside}
@@ -37,3 +38,8 @@ unitsOf (Wish.the-variants.Units u) v = Units u
 unitsOf (Acceleration x) v = accelerationUnits x
 unitsOf (TargetSpeed x) v = targetUnits x v
 unitsOf Hold v = Units (pos 0)
+
+-- how large units are: n for n and for −(n + 1)
+abbrev pub sizeIn : Converted → ℕ
+sizeIn (Units z) = mag z
+sizeIn Outside = 0

@@ -1,12 +1,12 @@
 // Wishes as units, their trimming, and what is read of a carrier, in metres.
 ghost use mathlib.Core.Path.{_≡_};
 ghost use mathlib.Core.Bool.{true, false};
-ghost use Prim.Native.Nat.{_^_, _<_};
+ghost use Prim.Native.Nat.{_+_, _^_, _≤_, _<_, min};
 ghost use lib.IntN.{pos};
 ghost use lib.Ieee.{fin};
 ghost use lib.Ieee.Exact.{HasValue};
 ghost use Rattle.wish.specs.Rounding.{roundedSize, roundedTimes};
-ghost use Rattle.wish.specs.Units.{liesWithin, accelerationUnits, targetUnits, unitsOf};
+ghost use Rattle.wish.specs.Units.{liesWithin, accelerationUnits, targetUnits, unitsOf, sizeIn};
 ghost use Rattle.wish.specs.Trimming.{smallerOf, trimmedTo};
 ghost use Rattle.wish.specs.Reading.{readingOf};
 
@@ -63,23 +63,24 @@ fn fraction_of(y: f32) -> Fraction
     }
 }
 
+// Digits below 2 ^ 24 are less than 1 after a shift by 24, and no larger one leaves more.
+fn enough(shift: u32) -> u32
+    ensures { λ r. ⌜ r ≡ min shift 24 ⌝ }
+{
+    if shift < 24 { shift } else { 24 }
+}
+
 // The size of the whole number to which that fraction is rounded down. The rule of rounding stands here alone.
 fn rounded_size(negative: bool, digits: u32, shift: u32) -> u32
     requires { ⌜ digits < 16777216 ⌝ }
     ensures { λ r. ⌜ r ≡ roundedSize negative digits (2 ^ shift) ⌝ }
 {
-    if shift < 24 {
-        if negative {
-            let unit: u32 = 1 << shift;
-            (digits + (unit - 1)) >> shift
-        } else {
-            digits >> shift
-        }
-    } else if negative {
-        // below 1 in size
-        if digits == 0 { 0 } else { 1 }
+    let by = enough(shift);
+    if negative {
+        let unit: u32 = 1 << by;
+        (digits + (unit - 1)) >> by
     } else {
-        0
+        digits >> by
     }
 }
 
@@ -128,7 +129,8 @@ fn target_units(x: f32, v: u32) -> Converted
 
 // The units of a wish at the present speed v, before trimming. They are 64 bits wide, since v may be any number of 32.
 pub fn units(w: Wish, v: u32) -> Converted
-    ensures { λ r. ⌜ r ≡ unitsOf w v ⌝ }
+    ensures given { λ r. ⌜ r ≡ unitsOf w v ⌝ }
+    ensures small { λ r. ⌜ sizeIn r ≤ 32767 + v ⌝ }
 {
     match w {
         Wish::Units(u) => Converted::Units(u as i64),

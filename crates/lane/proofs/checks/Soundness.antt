@@ -95,13 +95,14 @@ newcomer-fit road c e =
     let speed = passed (tooFast road c) 5 0 (position .1) in
     fit road c (rw (number .0, speed .0) refl) (position .0)
 
--- its numbers are 32 bits wide
+-- its numbers are 32 bits wide, and its speed within every limit
 pub record Narrow (c : Carrier) : Type 0 where
   pub position : c .position < 4294967296
   pub speed : c .speed < 4294967296
+  pub slow : c .speed ≤ 8192
 
 pub fit-narrow : (road : Road) (c : Carrier) → SoundRoad road → Fit road c → Narrow c
-fit-narrow road c r h = record { position = omega arith; speed = omega arith }
+fit-narrow road c r h = record { position = omega arith; speed = omega arith; slow = omega arith }
 
 -- ---- carriers
 pub record Faultless (road : Road) (cs : List Carrier) : Type 0 where

@@ -65,7 +65,7 @@ driving-start road count cs zs h kc kz =
       place = omega arith;
       few = omega arith;
       still = refl;
-      narrow = record { position = omega arith; speed = omega arith };
+      narrow = record { position = omega arith; speed = omega arith; slow = omega arith };
       flags = [];
       many = refl;
       bits = word-none;

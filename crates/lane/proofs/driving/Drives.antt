@@ -7,8 +7,8 @@ use lib.IntN.{ℤ, pos, _+ℤ_, _-ℤ_}
 use lib.Signed.{leZ}
 use Rattle.headway.specs.Motion.{speedAfter, positionAfter}
 use Rattle.headway.specs.Stopping.{braking}
-use Rattle.headway.specs.Totals.{restOf, restsBelow}
-use Rattle.headway.proofs.Laws.{braking-speed, speed-after, reached-after, tested-by-rest}
+use Rattle.headway.specs.Totals.{passesOf}
+use Rattle.headway.proofs.Laws.{braking-speed, speed-after, reached-after, passes-is}
 use Rattle.wish.specs.Trimming.{trimmedTo}
 use Rattle.wish.proofs.Laws.{new-speed}
 use Rattle.lane.specs.declared.Carrier.{Carrier}
@@ -59,16 +59,13 @@ module _ (r : Row) (foremost : Bool) (ahead c : Carrier) (w : ℤ) where
     unfolding stands
     braking-stands e = rw (f, e) refl
 
-    -- by where the carrier, and the one ahead, come to rest, as the code has these numbers
-    pub stands-by-rest : (b v u reach there rest : ℕ) → 1 ≤ guaranteedRate r c → 1 ≤ r .hardest → pos (c .speed) +ℤ w ≡ pos (speedAfter (c .speed) w)
-        → leZ w (braking (guaranteedRate r c) (c .speed)) ≡ false
-        → b ≡ guaranteedRate r c → v ≡ c .speed → u ≡ speedAfter (c .speed) w → reach ≡ reachTo ahead c
-        → there ≡ positionAfter reach v (pos u -ℤ pos v) → rest ≡ restOf (r .hardest) (ahead .position) (ahead .speed)
-        → restsBelow b there u rest ≡ stands r (cond foremost nobody (leader ahead)) c w
+    pub test-stands : 1 ≤ guaranteedRate r c → 1 ≤ r .hardest → Leads (c .speed) w 8192 → leZ w (braking (guaranteedRate r c) (c .speed)) ≡ false
+        → passesOf (guaranteedRate r c) (r .hardest) (reachTo ahead c) (c .speed) w (ahead .position) (ahead .speed)
+        ≡ stands r (cond foremost nobody (leader ahead)) c w
     unfolding stands
-    stands-by-rest b v u reach there rest hb hB s e is-b is-v is-u is-reach is-there is-rest =
-        rw (is-there, is-rest, is-b, is-v, is-u, is-reach)
-        (tested-by-rest (guaranteedRate r c) (r .hardest) (reachTo ahead c) (c .speed) w (ahead .position) (ahead .speed) (speedAfter (c .speed) w) hb hB s ∙ rw (f, e) refl)
+    test-stands hb hB l e =
+        passes-is (guaranteedRate r c) (r .hardest) (reachTo ahead c) (c .speed) w (ahead .position) (ahead .speed) (speedAfter (c .speed) w) hb hB (l .sum)
+        (omega (arith, l .small)) ∙ rw (f, e) refl
 
 -- ---- what a carrier drives
 module _ (r : Row) (limit : ℕ) (ahead : Ahead) (c : Carrier) (z a : ℤ) where

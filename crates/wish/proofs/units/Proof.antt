@@ -1,12 +1,15 @@
 -- `wish::units` meets its contract, by cases on the wish. Assumes nothing.
 use borrow.Author.Needs.{needs}
 use mathlib.Core.Path.{sym, ap, _∙_, subst}
+use Prim.Native.Nat.{_+_, _≤_}
+use native.Mathlib.Omega.{arith}
 use mir.Syntax.{w16, w64}
 use mir.Val.{SFits}
 use mir.Facts.{toZ-ofZ, sfits-widen}
-use Rattle.wish.specs.Units.{unitsOf}
+use Rattle.wish.specs.Units.{unitsOf, sizeIn}
 use Rattle.wish.specs.declared.Wish.{Wish}
 use Rattle.wish.specs.declared.Converted.the-variants.{Units}
+use Rattle.wish.proofs.Products.{acceleration-small, target-small}
 use Rattle.wish.proofs.units.Statement.{statement}
 use Rattle.wish.proofs.units.Tie as tie
 
@@ -35,29 +38,37 @@ target-units-requires c κs = search needs
 enum-told : tie.Need-enum-told
 enum-told c = search needs
 
+-- with nothing unfolded
+small-acceleration : (c : tie.After-acceleration-units) → sizeIn (c .acceleration-units .result) ≤ 32767 + c .before .before .before .before .args .v
+small-acceleration c = rw (c .acceleration-units .ensures) (acceleration-small _ _)
+
+small-target : (c : tie.After-target-units) → sizeIn (c .target-units .result) ≤ 32767 + c .before .before .before .before .args .v
+small-target c = rw (c .target-units .ensures) (target-small _ _)
+
 returns : tie.Need-returns
 unfolding unitsOf
 returns c =
     let a = c .before .before .before .args in
-    ap Units (toZ-ofZ (cast-t7 c) ∙ toZ-ofZ (narrow c)) ∙ sym (ap (λ (w : Wish). unitsOf w (a .v)) (c .before .w .given .1))
+    let e = toZ-ofZ (cast-t7 c) ∙ toZ-ofZ (narrow c) in
+    (ap Units e ∙ sym (ap (λ (w : Wish). unitsOf w (a .v)) (c .before .w .given .1)), rw e (omega (arith, narrow c .sfits)))
 
 returns-2 : tie.Need-returns-2
 unfolding unitsOf
 returns-2 c =
     let a = c .before .before .before .before .args in
-    c .acceleration-units .ensures ∙ sym (ap (λ (w : Wish). unitsOf w (a .v)) (c .before .before .w2 .given .1))
+    (c .acceleration-units .ensures ∙ sym (ap (λ (w : Wish). unitsOf w (a .v)) (c .before .before .w2 .given .1)), small-acceleration c)
 
 returns-3 : tie.Need-returns-3
 unfolding unitsOf
 returns-3 c =
     let a = c .before .before .before .before .args in
-    c .target-units .ensures ∙ sym (ap (λ (w : Wish). unitsOf w (a .v)) (c .before .before .w3 .given .1))
+    (c .target-units .ensures ∙ sym (ap (λ (w : Wish). unitsOf w (a .v)) (c .before .before .w3 .given .1)), small-target c)
 
 returns-4 : tie.Need-returns-4
 unfolding unitsOf
 returns-4 c =
     let a = c .before .before .args in
-    sym (ap (λ (w : Wish). unitsOf w (a .v)) (c .enum-told .given .1))
+    (sym (ap (λ (w : Wish). unitsOf w (a .v)) (c .enum-told .given .1)), omega arith)
 
 pub units-spec : {M : Type 1} → statement M
 units-spec =

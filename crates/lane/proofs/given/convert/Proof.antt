@@ -130,7 +130,7 @@ convert-one-requires : tie.Need-convert-one-requires Inv-loop μ-loop
 convert-one-requires c κs =
     let k = c .before .before .before in
     let m = at k .loop .inv .1 .1 in
-    (omega (arith, m .most), ready-narrow (s k .args .l .now) (s k .args .count) (s k .pre) (at k .loop .i) (omega arith) (m .carriers) .speed)
+    (omega (arith, m .most), ready-narrow (s k .args .l .now) (s k .args .count) (s k .pre) (at k .loop .i) (omega arith) (m .carriers) .slow)
 
 unfit-requires-2 : tie.Need-unfit-requires-2 Inv-loop μ-loop
 unfit-requires-2 c κs = at (k (c .before)) .loop .inv .0

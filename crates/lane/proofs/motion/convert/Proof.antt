@@ -52,7 +52,7 @@ convert-one-requires : tie.Need-convert-one-requires Inv-loop μ-loop
 convert-one-requires c κs =
     let at = c .before .before .before in
     let s = at .before .before .before .before in
-    (omega arith, ready-narrow (s .args .l .now) (s .args .count) (s .pre) (at .loop .i) (omega arith) (at .loop .inv .carriers) .speed)
+    (omega arith, ready-narrow (s .args .l .now) (s .args .count) (s .pre) (at .loop .i) (omega arith) (at .loop .inv .carriers) .slow)
 
 returns : tie.Need-returns Inv-loop μ-loop
 returns c =

@@ -5,11 +5,11 @@ use mathlib.Core.Path.{_≡_, refl, sym, ap, _∙_, subst}
 use mathlib.Core.List.{List}
 use Prim.Native.Nat.{ℕ, _-_, _≤_, _<_}
 use native.Mathlib.Omega.{arith}
-use lib.IntN.{pos}
+use lib.IntN.{ℤ, pos}
 use lib.ListN.{getD}
-use mir.Syntax.{w64}
-use mir.Val.{SFits}
-use mir.Facts.{toZ-ofZ}
+use mir.Syntax.{w32, w64}
+use mir.Val.{SFits, toZ, ofZ}
+use mir.Facts.{toZ-ofZ, sfits-widen}
 use Rattle.lane.specs.declared.Carrier.{Carrier}
 use Rattle.lane.specs.Layout.{figuresIn, recordsIn}
 use Rattle.lane.specs.Wishes.{drive, moved}
@@ -22,11 +22,11 @@ use Rattle.lane.proofs.motion.drive_all.Statement.{statement}
 use Rattle.lane.proofs.motion.drive_all.Tie as tie
 
 abbrev Inv-loop : tie.InvT-loop
-Inv-loop l₀ road count units row left₀ word₀ ahead₀ i₀ l left word ahead i =
+Inv-loop l₀ road count units ahead₀ row left₀ word₀ i₀ l ahead left word i =
     (figuresIn l ≡ figuresIn l₀) × Driving road count (recordsIn l₀) units (recordsIn l) left word ahead i
 
 abbrev μ-loop : tie.MeasureT-loop
-μ-loop l₀ road count units row left₀ word₀ ahead₀ i₀ l left word ahead i = count - i
+μ-loop l₀ road count units ahead₀ row left₀ word₀ i₀ l ahead left word i = count - i
 
 -- the carrier at the loop's place
 module _ (k : tie.After-carrier-at Inv-loop μ-loop) where
@@ -34,7 +34,7 @@ module _ (k : tie.After-carrier-at Inv-loop μ-loop) where
   at = k .before .before .before
 
   abbrev s : tie.Start Inv-loop μ-loop
-  s = at .before .before .before
+  s = at .before .before .before .before
 
   abbrev cs : List Carrier
   cs = recordsIn (s .args .l .now)
@@ -53,23 +53,38 @@ module _ (k : tie.After-carrier-at Inv-loop μ-loop) where
   narrow-here : Narrow (k .carrier-at .result)
   narrow-here = fit-narrow (s .args .road) (k .carrier-at .result) road-sound fit-here
 
--- the units read and the acceleration driven are what 64 bits hold
-units-fit : (d : tie.After-drive-one Inv-loop μ-loop) → let k = d .before .before in SFits w64 (getD (s k .args .units .now) (at k .loop .i) (pos 0))
-units-fit d = search needs
+-- the units read are of 32 bits, which 64 hold
+module _ (d : tie.After-drive-one-arg Inv-loop μ-loop) where
+  abbrev unit : ℤ
+  unit = let k = d .before in getD (s k .args .units .now) (at k .loop .i) (pos 0)
 
+  unit-fits : SFits w32 unit
+  unit-fits = search needs
+
+  unit-wide : SFits w64 (toZ w32 (ofZ w32 unit))
+  unit-wide = subst (SFits w64) (sym (toZ-ofZ unit-fits)) (sfits-widen tt unit-fits)
+
+  unit-read : toZ w64 (ofZ w64 (toZ w32 (ofZ w32 unit))) ≡ unit
+  unit-read = toZ-ofZ unit-wide ∙ toZ-ofZ unit-fits
+
+-- and the acceleration driven of 64
 driven-fits : (t : tie.After-struct-told Inv-loop μ-loop) → SFits w64 (t .before .before .before .drive-one .result .acceleration)
 driven-fits t = search needs
 
 sized-requires : tie.Need-sized-requires Inv-loop μ-loop
 sized-requires c κs = search needs
 
+no-carrier-requires : tie.Need-no-carrier-requires Inv-loop μ-loop
+no-carrier-requires c κs = search needs
+
 row-in-requires : tie.Need-row-in-requires Inv-loop μ-loop
 row-in-requires c κs = search needs
 
 loop-holds : tie.Need-loop-holds Inv-loop μ-loop
 loop-holds c =
-    let s = c .before .before in
-    (refl, driving-start (s .args .road) (s .args .count) _ (s .args .units .now) (s .pre .0 .0) (s .pre .1) (c .before .sized .ensures))
+    let n = c .before in
+    let s = n .before .before in
+    (refl, rw (n .no-carrier .ensures) (driving-start (s .args .road) (s .args .count) _ (s .args .units .now) (s .pre .0 .0) (s .pre .1) (n .before .sized .ensures)))
 
 carrier-at-requires : tie.Need-carrier-at-requires Inv-loop μ-loop
 carrier-at-requires c κs = search needs
@@ -79,6 +94,9 @@ mul-drive-one c = search needs
 
 element-copy-out-drive-one : tie.Need-element-copy-out-drive-one Inv-loop μ-loop
 element-copy-out-drive-one c = search needs
+
+cast-drive-one : tie.Need-cast-drive-one Inv-loop μ-loop
+cast-drive-one c = unit-wide c
 
 drive-one-requires : tie.Need-drive-one-requires Inv-loop μ-loop
 drive-one-requires c κs =
@@ -128,7 +146,7 @@ loop-again c =
     let row = at k .before .row-in in
     let x = k .carrier-at .result in
     let inv = at k .loop .inv in
-    let driven = ap (drive (row .result) (s k .args .road .limit) (aheadAt (at k .loop .i) (at k .loop .ahead)) x) (toZ-ofZ (units-fit d)) in
+    let driven = ap (drive (row .result) (s k .args .road .limit) (aheadAt (at k .loop .i) (at k .loop .ahead)) x) (unit-read (d .before)) in
     let moved-there = ap (moved x) (toZ-ofZ (driven-fits (moves .before))) in (
       c .keep .ensures .0 ∙ inv .0,
       driving-on (inv .1) (row .result) x (d .drive-one .result) (marks .marked .result) (moves .move-one .result) (below k) (narrow-here k) (row .ensures)
@@ -140,7 +158,7 @@ returns : tie.Need-returns Inv-loop μ-loop
 returns c =
     let inv = c .before .loop .inv in
     let m = inv .1 in
-    let past : c .before .before .before .before .args .count ≤ c .before .loop .i = omega arith in
+    let past : c .before .before .before .before .before .args .count ≤ c .before .loop .i = omega arith in
     (all-marked m past, (all-kept m past, (omega (arith, m .few, m .place), (inv .0, m .long))))
 
 pub drive-all-spec : {M : Type 1} → statement M
@@ -150,11 +168,13 @@ drive-all-spec =
     Inv-loop
     μ-loop
     sized-requires
+    no-carrier-requires
     row-in-requires
     loop-holds
     carrier-at-requires
     mul-drive-one
     element-copy-out-drive-one
+    cast-drive-one
     drive-one-requires
     marked-requires
     move-one-requires

@@ -6,11 +6,9 @@ use lib.Signed.{leZ}
 use mir.Syntax.{w64}
 use mir.Val.{SFits, toZ, ofZ}
 use mir.Facts.{toZ-ofZ}
-use Rattle.headway.specs.Motion.{speedAfter}
 use Rattle.headway.specs.Stopping.{braking}
-use Rattle.headway.specs.Totals.{restOf}
 use Rattle.lane.specs.Safety.{guaranteedRate}
-use Rattle.lane.proofs.driving.Drives.{foremost-stands, braking-stands, stands-by-rest}
+use Rattle.lane.proofs.driving.Drives.{foremost-stands, braking-stands, test-stands}
 use Rattle.lane.proofs.motion.wish_stands.Statement.{statement}
 use Rattle.lane.proofs.motion.wish_stands.Tie as tie
 
@@ -47,8 +45,8 @@ returns-2 c =
     let a = s b .args in
     braking-stands (a .row) (a .foremost) (a .ahead) (a .c) (a .w) (b .before .before .before .if1 .left) (tested b _ (c .if2 .taken))
 
-next-speed-requires : tie.Need-next-speed-requires
-next-speed-requires c κs = search needs
+reach-to-requires : tie.Need-reach-to-requires
+reach-to-requires c κs = search needs
 
 narrow-requires-2 : tie.Need-narrow-requires-2
 narrow-requires-2 c κs = search needs
@@ -56,34 +54,21 @@ narrow-requires-2 c κs = search needs
 narrow-requires-3 : tie.Need-narrow-requires-3
 narrow-requires-3 c κs = search needs
 
-rest-requires : tie.Need-rest-requires
-rest-requires c κs = search needs
-
-reach-to-requires : tie.Need-reach-to-requires
-reach-to-requires c κs = search needs
-
-reached-requires : tie.Need-reached-requires
-reached-requires c κs = search needs
-
-rests-below-requires : tie.Need-rests-below-requires
-rests-below-requires c κs = search needs
+rests-behind-requires : tie.Need-rests-behind-requires
+rests-behind-requires c κs = search needs
 
 returns-3 : tie.Need-returns-3
 returns-3 c =
-    let there = c .before in
-    let reach = there .before in
-    let rest = reach .before in
-    let speed = rest .before in
-    let position = speed .before in
-    let n = position .before in
-    let b = n .before .before in
+    let v = c .before in
+    let p = v .before in
+    let reach = p .before in
+    let b = reach .before .before in
     let g = s b in
     let a = g .args in
-    c .rests-below .ensures
-    ∙ stands-by-rest (a .row) (a .foremost) (a .ahead) (a .c) (a .w) (b .before .before .before .if1 .left) _ _ _ _ _ _ (g .pre .0 .0) (g .pre .0 .1)
-    (g .pre .1 .0 .0) (tested b _ (n .before .if2 .left)) (b .before .before .guaranteed-rate .ensures) (b .before .narrow .ensures)
-    (n .next-speed .ensures ∙ ap (speedAfter (a .c .speed)) (toZ-ofZ (g .fits .w))) (reach .reach-to .ensures) (there .reached .ensures)
-    (rest .rest .ensures ∙ ap₂ (restOf (a .row .hardest)) (position .narrow2 .ensures) (speed .narrow3 .ensures))
+    c .rests-behind .ensures
+    ∙ rw (b .before .before .guaranteed-rate .ensures, b .before .narrow .ensures, reach .reach-to .ensures, p .narrow2 .ensures, v .narrow3 .ensures, toZ-ofZ (g .fits .w))
+    (test-stands (a .row) (a .foremost) (a .ahead) (a .c) (a .w) (b .before .before .before .if1 .left) (g .pre .0 .0) (g .pre .0 .1)
+    (record { sum = g .pre .1 .0 .0; small = g .pre .1 .0 .1 }) (tested b _ (reach .before .if2 .left)))
 
 pub wish-stands-spec : {M : Type 1} → statement M
 wish-stands-spec =
@@ -94,11 +79,8 @@ wish-stands-spec =
     narrow-requires
     braking-requires
     returns-2
-    next-speed-requires
+    reach-to-requires
     narrow-requires-2
     narrow-requires-3
-    rest-requires
-    reach-to-requires
-    reached-requires
-    rests-below-requires
+    rests-behind-requires
     returns-3)

@@ -24,17 +24,20 @@ use Rattle.lane.proofs.rules.any_fault.Statement.{statement}
 use Rattle.lane.proofs.rules.any_fault.Tie as tie
 
 abbrev Inv-loop : tie.InvT-loop
-Inv-loop l road count row first₀ next₀ behind₀ stop₀ i₀ first next behind stop i = Passed road row (recordsIn l) count first next behind stop i
+Inv-loop l road count behind₀ row first₀ next₀ stop₀ i₀ behind first next stop i = Passed road row (recordsIn l) count first next behind stop i
 
 abbrev μ-loop : tie.MeasureT-loop
-μ-loop l road count row first₀ next₀ behind₀ stop₀ i₀ first next behind stop i = i
+μ-loop l road count behind₀ row first₀ next₀ stop₀ i₀ behind first next stop i = i
+
+no-carrier-requires : tie.Need-no-carrier-requires Inv-loop μ-loop
+no-carrier-requires c κs = search needs
 
 row-in-requires : tie.Need-row-in-requires Inv-loop μ-loop
 row-in-requires c κs = search needs
 
 loop-holds : tie.Need-loop-holds Inv-loop μ-loop
 loop-holds c =
-    let a = c .before .args in
+    let a = c .before .before .args in
     let l = recordsIn (a .l .now) in
     record {
       sorts = refl;
@@ -60,22 +63,22 @@ past-end-requires : tie.Need-past-end-requires Inv-loop μ-loop
 past-end-requires c κs = search needs
 
 -- what a turn adds to the carriers passed
-turn : (c : tie.After-past-end Inv-loop μ-loop) → let at-carrier = c .before .before in let at = at-carrier .before .before in let a = at .before .before .args in
+turn : (c : tie.After-past-end Inv-loop μ-loop) → let at-carrier = c .before .before in let at = at-carrier .before .before in let a = at .before .before .before .args in
     let cs = slice (at .loop .i) (a .count) (recordsIn (a .l .now)) in
     faulty (a .road) (slice (at .loop .i - 1) (a .count) (recordsIn (a .l .now)))
     ≡ (c .before .unlawful .result || c .past-end .result) || not (safeFrom (rowIn (a .road)) (leader (at-carrier .carrier-at .result)) cs) || anyOf (numbered (at-carrier .carrier-at .result .number)) cs
 turn c =
     let at-carrier = c .before .before in
     let at = at-carrier .before .before in
-    let a = at .before .before .args in
+    let a = at .before .before .before .args in
     fault-next (a .road) (recordsIn (a .l .now)) (a .count) (omega arith) (at .loop .i) (omega arith) (omega arith) (at .loop .inv .faultless)
     ∙ rw (c .before .unlawful .ensures, c .past-end .ensures, at-carrier .carrier-at .ensures) refl
 
 -- a fault found past a place is one of the whole
-found : (at : tie.At-loop Inv-loop μ-loop) → let a = at .before .before .args in
+found : (at : tie.At-loop Inv-loop μ-loop) → let a = at .before .before .before .args in
     faulty (a .road) (slice (at .loop .i - 1) (a .count) (recordsIn (a .l .now))) ≡ true → true ≡ faulty (a .road) (take (a .count) (recordsIn (a .l .now)))
 found at e =
-    let a = at .before .before .args in
+    let a = at .before .before .before .args in
     sym (fault-whole (a .road) (recordsIn (a .l .now)) (a .count) (omega arith) (at .loop .i - 1) (omega arith) e)
 
 returns : tie.Need-returns Inv-loop μ-loop
@@ -93,7 +96,7 @@ module _ (c : tie.Else1 Inv-loop μ-loop) where
   at = at-carrier .before .before
 
   abbrev s : tie.Start Inv-loop μ-loop
-  s = at .before .before
+  s = at .before .before .before
 
   abbrev carrier : Carrier
   carrier = at-carrier .carrier-at .result
@@ -230,6 +233,7 @@ any-fault-spec =
     (tie.spec
     Inv-loop
     μ-loop
+    no-carrier-requires
     row-in-requires
     loop-holds
     sub-i
