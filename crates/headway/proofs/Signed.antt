@@ -114,9 +114,6 @@ module _ (v : ℕ) (h : v < 2 ^ 32) where
       sum-read : Sum ≡ pos (speed .0)
       sum-read = toZ-ofZ sum-fits ∙ sum
 
-      pub sum-small : natAbs Sum < 2 ^ 32
-      sum-small = rw sum-read (speed .2)
-
       pub sum-cast : T (nonNeg Sum) × Fits w32 (natAbs Sum)
       sum-cast = rw sum-read (tt, record { fits = speed .2 })
 

@@ -7,7 +7,7 @@ use native.Mathlib.Decide.{decLt}
 use native.Mathlib.Omega.{arith}
 use lib.Dec.{leb, ltb, eqb}
 use lib.ListN.{length, getD, take, drop, length-append, length-drop}
-use lib.Seq.{take-at, drop-at, drop-append-seam, length-take-le}
+use lib.Seq.{take-at, drop-append-seam, length-take-le}
 use borrow.Author.Tests.{lt-ltb, le-ltb, le-leb, eq-eqb, ne-eqb, ltb-true, leb-true, eqb-true}
 use Rattle.text.specs.Numbers.{digits, decimal, hexadecimal}
 use Rattle.text.specs.Lines.{line}
@@ -141,9 +141,6 @@ module _ (key value rest : List ℕ) (k : lineLength key ≡ length key) (v : li
   pub value-there : length key + length value < longestLine → lineValue key (line key value ++ rest) ≡ value
   unfolding lineValue
   value-there h = rw (line-there h, before-newline) (drop-append-seam key value)
-
-  pub after-line : drop (suc (lineLength (line key value ++ rest))) (line key value ++ rest) ≡ rest
-  after-line = drop-at (line key value) rest (suc (lineLength text)) (rw length-of-line (length-line key value ∙ omega arith))
 
 -- ---- numbers
 

@@ -4,7 +4,7 @@ use mathlib.Core.Bool.{true, false, not, _||_}
 use mathlib.Core.List.{List, _∷_}
 use Prim.Native.Nat.{ℕ, _+_, _≤_, _<_}
 use native.Mathlib.Omega.{arith}
-use borrow.Author.Tests.{le-ltb, lt-leb, ltb-false, leb-false, eqb-true, not-false}
+use borrow.Author.Tests.{le-ltb, ltb-false, leb-false, eqb-true, not-false}
 use lib.Dec.{eqb, leb, ltb}
 use lib.ListN.{length, getD, take}
 use lib.Seq.{slice}
@@ -77,15 +77,6 @@ fit road c e p =
       slow = ltb-false (road .limit) (c .speed) (t .1);
       before-end = leb-false (road .end) (c .position) p;
     }
-
-pub fit-lawful : (road : Road) (c : Carrier) → Fit road c → unlawful road c ≡ false
-unfolding unlawful
-fit-lawful road c h =
-    rw (le-ltb (c .number) 1 (h .number-least), le-ltb 65535 (c .number) (h .number-most), le-ltb (road .limit) (c .speed) (h .slow)) refl
-
-pub fit-before-end : (road : Road) (c : Carrier) → Fit road c → pastEnd road c ≡ false
-unfolding pastEnd
-fit-before-end road c h = lt-leb (road .end) (c .position) (h .before-end)
 
 pub newcomer-fit : (road : Road) (c : Carrier) → newcomerNo road c ≡ 0 → Fit road c
 unfolding newcomerNo unlawful pastEnd

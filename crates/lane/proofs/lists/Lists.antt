@@ -1,15 +1,11 @@
 -- Facts on lists of any type, and on the part of a list that a loop has still to see.
 use mathlib.Core.Path.{_≡_, sym, ap, _∙_, subst}
-use mathlib.Core.List.{List, [], _∷_, map}
+use mathlib.Core.List.{List, [], _∷_}
 use Prim.Native.Nat.{ℕ, _+_, _≤_, _<_}
 use native.Mathlib.Numerals.{add-one}
 use native.Mathlib.Nat.{le-trans, min-le-left}
-use lib.ListN.{length, getD, take, length-map, length-take, drop-of-length-le}
+use lib.ListN.{length, getD, take, length-take, drop-of-length-le}
 use lib.Seq.{slice, slice-cons}
-
--- a list is as long as what is made of it element by element: so the length of an array in a struct is told
-pub length-mapped : {A B : Type 0} (f : A → B) (l : List A) (n : ℕ) → length (map f l) ≡ n → length l ≡ n
-length-mapped f l n e = sym (length-map l f) ∙ e
 
 module _ {ℓ} {A : Type ℓ} where
   -- a loop sees the next element

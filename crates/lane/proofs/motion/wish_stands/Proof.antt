@@ -1,6 +1,6 @@
 -- `lane::motion::wish_stands` meets its contract: the three ways in which a trimmed wish stands, in their order.
 use borrow.Author.Needs.{needs}
-use mathlib.Core.Path.{_≡_, sym, ap, ap₂, _∙_}
+use mathlib.Core.Path.{_≡_, sym, ap₂, _∙_}
 use mathlib.Core.Bool.{Bool}
 use lib.Signed.{leZ}
 use mir.Syntax.{w64}
