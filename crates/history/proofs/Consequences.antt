@@ -2,21 +2,25 @@
 use mathlib.Core.Path.{_≡_, refl, sym, ap, _∙_, subst}
 use mathlib.Core.Bool.{Bool, true, false, _&&_, _||_, true≢false}
 use mathlib.Core.List.{List, [], _∷_, _++_}
-use Prim.Native.Nat.{ℕ, _≤_, _<_}
+use Prim.Native.Nat.{ℕ, _^_, _≤_, _<_}
 use native.Mathlib.Omega.{arith}
-use borrow.Author.Tests.{ltb-true, ltb-false}
+use borrow.Author.Tests.{le-ltb, ltb-true, ltb-false}
 use lib.Dec.{eqb, ltb}
-use lib.ListN.{length}
+use lib.ListN.{length, getD}
 use lib.Signed.{<ℤ-irrefl}
 use Rattle.wish.specs.declared.Wish.{Wish}
+use Rattle.lane.specs.declared.Carrier.{Carrier}
 use Rattle.lane.specs.Layout.{Words, stateOf}
-use Rattle.lane.specs.Call.{cycle-call, Answer, callNo, Kept}
+use Rattle.lane.specs.Calls.{none}
+use Rattle.lane.specs.Call.{Call, cycle-call, Answer, callNo, Kept}
 use Rattle.lane.proofs.CallLaws.{answer-number, kept-not-21}
-use Rattle.history.specs.Book.{Seen, Book, booked}
-use Rattle.history.specs.Claims.{kindOf, carrierAt, placeAt, Claims}
-use Rattle.history.specs.History.{Event, seen, Ran, isStart, startsLane, Chain, chain-end, chain-next, Throughout, NeverBroken}
+use Rattle.history.specs.Book.{Seen, Book, begun, booked}
+use Rattle.history.specs.Claims.{kindOf, carrierAt, placeAt, restsLevelOrCrossed, Claims}
+use Rattle.history.specs.History.{Event, seen, Ran, AllTyped, HistoryOf, isStart, startsLane, Chain, chain-end, chain-next, Throughout, NeverBroken}
+use Rattle.history.proofs.Bits.{below-power}
 use Rattle.history.proofs.Lasting.{goes-on}
-use Rattle.history.proofs.History.{ran-gives}
+use Rattle.history.proofs.History.{ran-gives, history}
+use Rattle.history.proofs.Answered.{every-list}
 
 -- the book after the first calls
 abbrev pub bookOn : Book → List Event → Book
@@ -29,7 +33,27 @@ pub at-each-call : (b : Book) (before : List Event) (e : Event) (later : List Ev
 at-each-call b [] e later t = t .0
 at-each-call b (x ∷ before) e later t = at-each-call (booked (seen x) b) before e later (t .1)
 
--- after a call no two carriers of the book are level
+-- ---- after a call: the lane and the book
+
+-- a carrier with all that it has
+pub record SameCarrier (c d : Carrier) : Type 0 where
+  pub number : c .number ≡ d .number
+  pub position : c .position ≡ d .position
+  pub speed : c .speed ≡ d .speed
+
+pub as-many : (after : Words) (s : Seen) (b : Book) → Claims after s b → length (stateOf after .carriers) ≡ length (booked s b .carriers)
+as-many after s b c = ap length (c .carriers)
+
+pub at-each-place : (after : Words) (s : Seen) (b : Book) → Claims after s b → (i : ℕ)
+    → SameCarrier (getD (stateOf after .carriers) i none) (carrierAt (booked s b) i)
+at-each-place after s b c i =
+    record {
+      number = ap (λ (cs : List Carrier). getD cs i none .number) (c .carriers);
+      position = ap (λ (cs : List Carrier). getD cs i none .position) (c .carriers);
+      speed = ap (λ (cs : List Carrier). getD cs i none .speed) (c .carriers);
+    }
+
+-- no two carriers of the book are level
 pub apart-after : (after : Words) (s : Seen) (b : Book) → Claims after s b → (i j : ℕ) → ¬ (i ≡ j)
     → i < length (booked s b .carriers) → j < length (booked s b .carriers) → ¬ (carrierAt (booked s b) i .position ≡ carrierAt (booked s b) j .position)
 apart-after after s b c i j d p q e = by-order (ltb i j) refl
@@ -38,7 +62,9 @@ apart-after after s b c i j d p q e = by-order (ltb i j) refl
     by-order true h = omega (arith, e, c .order i j (ltb-true i j h) q)
     by-order false h = omega (arith, e, c .order j i (omega (arith, d, ltb-false i j h)) p)
 
--- and at no fraction of a cycle run are two level
+-- ---- in a cycle run
+
+-- no two are level at any fraction
 pub apart-within : (after : Words) (count word : ℕ) (ws : List Wish) (b : Book)
     → Claims after (record { call = cycle-call count ws; refused = false; word = word }) b
     → (n k i j : ℕ) → 1 ≤ n → k ≤ n → ¬ (i ≡ j) → i < length (b .carriers) → j < length (b .carriers) → ¬ (placeAt b word ws n k i ≡ placeAt b word ws n k j)
@@ -47,6 +73,22 @@ apart-within after count word ws b c n k i j hn hk d p q e = by-order (ltb i j) 
     by-order : (t : Bool) → ltb i j ≡ t → ⊥
     by-order true h = <ℤ-irrefl (rw e at (c .cycle-run .0 n k i j hn hk (ltb-true i j h) q))
     by-order false h = <ℤ-irrefl (rw (sym e) at (c .cycle-run .0 n k j i hn hk (omega (arith, d, ltb-false i j h)) p))
+
+-- a bit is set for a carrier's wish alone
+pub word-within : (after : Words) (count word : ℕ) (ws : List Wish) (b : Book)
+    → Claims after (record { call = cycle-call count ws; refused = false; word = word }) b → word < 2 ^ length (b .carriers)
+unfolding restsLevelOrCrossed
+word-within after count word ws b c = below-power (length (b .carriers)) word λ i h. c .cycle-run .1 i ∙ rw (le-ltb i (length (b .carriers)) h) (neither (ltb 0 i))
+  where
+    neither : (t : Bool) → t && false ≡ false
+    neither true = refl
+    neither false = refl
+
+-- ---- of lists
+
+-- for every list of calls from an empty lane there is a history, and what is claimed holds throughout it
+pub every-list-claimed : (l : Words) → stateOf l .count ≡ 0 → (xs : List Call) → AllTyped xs → (h : HistoryOf l xs) × Throughout (begun l) (h .events)
+every-list-claimed l e xs t = let h = every-list l xs t in (h, history l e (h .events) (h .last) (h .ran))
 
 lasting : {l d : Words} {es : List Event} (started : Bool) → (started ≡ true → Kept (stateOf l)) → Chain l es d → NeverBroken started es
 lasting started h chain-end = tt
@@ -57,6 +99,26 @@ lasting {l} started h (chain-next {e = e} g w r) =
           (λ q. subst Kept (sym (g .state)) (goes-on (e .call) (stateOf l) started h (rw number at q))) r,
     )
 
+-- what is known of a list is known of a part of it that others come before
+later : (started : Bool) (before es : List Event) → NeverBroken started (before ++ es)
+    → (still : Bool) × (started ≡ true → still ≡ true) × NeverBroken still es
+later started [] es n = (started, λ q. q, n)
+later started (x ∷ before) es n =
+    let r = later (started || startsLane x) before es (n .1) in
+    (r .0, λ q. r .1 (rw q refl), r .2)
+
 -- from any lane at all: once a start was accepted no call gives 21
 pub never-broken : (l : Words) (es : List Event) (d : Words) → Ran l es d → NeverBroken false es
 never-broken l es d r = lasting false (λ q. absurd (true≢false (sym q))) (ran-gives r)
+
+-- a start accepted, then any list, then a call: it does not give 21
+pub started-for-good : (l d : Words) (before : List Event) (e : Event) (between : List Event) (f : Event) (after : List Event)
+    → Ran l (before ++ (e ∷ (between ++ (f ∷ after)))) d → startsLane e ≡ true → ¬ (f .answer .number ≡ 21)
+started-for-good l d before e between f after r starts =
+    let x = later false before _ (never-broken l _ d r) in
+    let y = later (x .0 || startsLane e) between _ (x .2 .1) in
+    y .2 .0 (y .1 (rw starts (either (x .0))))
+  where
+    either : (t : Bool) → t || true ≡ true
+    either true = refl
+    either false = refl

@@ -1,8 +1,10 @@
--- `History` is the theorem over every list of calls, `Consequences` what a reader may take from it. Before them the road book against the
+-- `History` is the theorem over every list of calls, `Answered` that there is a history of each, `Consequences` what a reader may take from both. Before them the road book against the
 -- lane's laws: one call of each kind, a cycle, lane and book in agreement.
+mod Bits
 mod Books
 mod CycleRuns
 mod Agreement
 mod Lasting
 pub mod History
+pub mod Answered
 pub mod Consequences

@@ -2,7 +2,7 @@
 use Prim.Native.Nat.{ℕ, _≤_}
 use mathlib.Core.Path.{_≡_}
 use mathlib.Core.Bool.{Bool, true, false, not, _&&_, _||_}
-use mathlib.Core.List.{List, [], _∷_}
+use mathlib.Core.List.{List, [], _∷_, map}
 use contract.Lifetimes.{Lfts}
 use denote.Ref.{RefT, now, at-last}
 use lib.Dec.{eqb}
@@ -71,6 +71,23 @@ Did (text-call buffer) l a m =
 pub data Ran : Words → List Event → Words → Type 0 where
   none-yet : {l : Words} → Ran l [] l
   then : {l d : Words} {e : Event} {es : List Event} → Did (e .call) l (e .answer) (e .left) → Ran (e .left) es d → Ran l (e ∷ es) d
+
+-- the arguments that the functions' types hold: sixty-four wishes, and any numbers
+abbrev pub Typed : {x : Call} → Kind x → Type 0
+Typed (begins road first) = Unit {0}
+Typed (runs count wishes) = length wishes ≡ 64
+Typed (other x) = Unit {0}
+
+abbrev pub AllTyped : List Call → Type 0
+AllTyped [] = Unit {0}
+AllTyped (x ∷ xs) = Typed (kindOf x) × AllTyped xs
+
+-- a history of these calls
+pub record HistoryOf (l : Words) (xs : List Call) : Type 0 where
+  pub events : List Event
+  pub last : Words
+  pub calls : map (λ (e : Event). e .call) events ≡ xs
+  pub ran : Ran l events last
 
 -- ---- the same by what a call gives, whichever function makes it
 

@@ -1,4 +1,4 @@
--- `Laws`, `CallLaws` and `CycleLaws` are what the crates above may use; `Cases` is the table of the marked cases. Before them stand the laws behind
+-- `Laws`, `CallLaws`, `CycleLaws` and `Answerable` are what the crates above may use; `Cases` is the table of the marked cases. Before them stand the laws behind
 -- them and behind the functions, in groups; a function's own proof is in a folder of its module's and its own name.
 mod lists
 mod checks
@@ -8,3 +8,4 @@ pub mod Laws
 mod Cases
 pub mod CallLaws
 pub mod CycleLaws
+pub mod Answerable

@@ -1,7 +1,7 @@
 -- Any call of the lane: its number, what it answers, and the lane afterwards.
 use Prim.Native.Nat.{ℕ, _<_}
 use mathlib.Core.Path.{_≡_}
-use mathlib.Core.Bool.{false}
+use mathlib.Core.Bool.{Bool, true, false}
 use mathlib.Core.List.{List, []}
 use lib.ListN.{length}
 use Rattle.wish.specs.Reading.{readingOf}
@@ -60,38 +60,47 @@ abbrev pub told : (number long : ℕ) → (bytes : List ℕ) → Answer
 told number long bytes =
     record { number = number; place = 0; word = 0; replaced = 0; gone = 0; reading = readingOf 0 0; long = long; bytes = bytes }
 
--- what a call means: the number of its refusal, 0 where it is accepted; the state after it and what it answers, where it is accepted; and the
--- bytes of the lent buffer before it, where it has one
+-- what a call means: the number of its refusal, 0 where it is accepted; the state after it and what it answers, where it is accepted; the
+-- bytes of the lent buffer before it, where it has one; and whether it only reads, so that it leaves the very lane, every word of it as it was
 pub record Meaning : Type 0 where
   pub number : State → ℕ
   pub after : State → State
   pub answer : State → Answer
   pub lent : List ℕ
+  pub reads : Bool
 
 -- an entry answers the place where the walk ends, a cycle word, replaced and gone, a read two doubles, the lane text its length and bytes; read
 -- and lane text change nothing
 abbrev pub meaning : Call → Meaning
 meaning (start-call road first) =
-    record { number = λ s. roadNo road; after = λ s. begunState road first; answer = λ s. bare 0 []; lent = [] }
+    record { number = λ s. roadNo road; after = λ s. begunState road first; answer = λ s. bare 0 []; lent = []; reads = false }
 meaning (enter-call c) =
-    record { number = λ s. enterNo s c; after = λ s. enteredState s c; answer = λ s. placed 0 (walk (c .position) (s .carriers)); lent = [] }
+    record {
+      number = λ s. enterNo s c;
+      after = λ s. enteredState s c;
+      answer = λ s. placed 0 (walk (c .position) (s .carriers));
+      lent = [];
+      reads = false;
+    }
 meaning (leave-call number) =
-    record { number = λ s. namedNo s number; after = λ s. leftState s number; answer = λ s. bare 0 []; lent = [] }
+    record { number = λ s. namedNo s number; after = λ s. leftState s number; answer = λ s. bare 0 []; lent = []; reads = false }
 meaning (cycle-call count ws) =
     record {
       number = λ s. cycleNo s count ws;
       after = λ s. cycledState s ws;
       answer = λ s. run 0 (cycleWord s ws) (cycleReplaced s ws) (cycleGone s ws);
       lent = [];
+      reads = false;
     }
 meaning (read-call number) =
-    record { number = λ s. namedNo s number; after = λ s. s; answer = λ s. shown 0 (namedReading s number); lent = [] }
+    record { number = λ s. namedNo s number; after = λ s. s; answer = λ s. shown 0 (namedReading s number); lent = []; reads = true }
 meaning (text-call buffer) =
     record {
       number = λ s. textNo s buffer;
       after = λ s. s;
       answer = λ s. told 0 (length (laneText s)) (textBytes s buffer);
       lent = buffer;
+      reads = true;
     }
 
 abbrev pub callNo : Call → State → ℕ

@@ -1,10 +1,12 @@
 -- The rows of a lane: what a row is to the figures and to the records, and what a store to one changes.
 use mathlib.Core.Path.{_≡_, refl, sym, ap, ap₂, _∙_}
-use mathlib.Core.List.{List, [], _∷_, map}
+use mathlib.Core.Bool.{Bool, true, false, cond}
+use mathlib.Core.List.{List, [], _∷_, _++_, map}
 use Prim.Native.Nat.{ℕ, zero, suc, _+_, _≤_, _<_}
 use native.Mathlib.Omega.{arith}
-use lib.ListN.{length, getD, take, drop, set, length-map, length-drop, List·getD-map}
-use lib.Seq.{length-take-le, getD-drop, getD-set-same, getD-set-other, drop-set-lt, drop-set-add}
+use lib.Dec.{eqb}
+use lib.ListN.{length, getD, take, drop, set, replicate, length-map, length-drop, List·getD-map}
+use lib.Seq.{take-all, length-take-le, getD-drop, getD-set-same, getD-set-other, drop-set-lt, drop-set-add}
 use Rattle.lane.specs.declared.Carrier.{Carrier}
 use Rattle.lane.specs.declared.layout.Figures.{Figures}
 use Rattle.lane.specs.State.{State}
@@ -57,3 +59,31 @@ carriers-are l₀ l cycle count records cs e k h p =
         → _≡_ {A = State} (record { started = figuresIn l₀ .started; road = figuresIn l₀ .road; cycle = cycle; count = n; carriers = a })
         (record { started = figuresIn l₀ .started; road = figuresIn l₀ .road; cycle = cycle; count = m; carriers = b })
     filled n m a b p q = rw (p, q) refl
+
+-- ---- words for a state
+
+-- the row of a carrier
+rowFor : Carrier → List ℕ
+rowFor c = c .number ∷ c .position ∷ c .speed ∷ []
+
+read-back : (cs : List Carrier) → map recordIn (map rowFor cs) ≡ cs
+unfolding rowFor
+read-back [] = refl
+read-back (c ∷ cs) = ap (λ ds. c ∷ ds) (read-back cs)
+
+-- a lane of that state
+pub wordsFor : State → Words
+wordsFor s =
+    (cond (s .started) 1 0 ∷ s .road .surface ∷ s .road .end ∷ s .road .limit ∷ s .cycle ∷ s .count ∷ [])
+    ∷ (replicate 24 [] ++ map rowFor (s .carriers))
+
+-- every state that counts its carriers is that of some lane
+pub words-for : (s : State) → s .count ≡ length (s .carriers) → stateOf (wordsFor s) ≡ s
+unfolding wordsFor recordsIn
+words-for s e = rw (read-back (s .carriers), take-all (s .count) (s .carriers) (omega arith)) (by-started (s .started))
+  where
+    by-started : (t : Bool)
+        → _≡_ {A = State} (record { started = eqb (cond t 1 0) 1; road = s .road; cycle = s .cycle; count = s .count; carriers = s .carriers })
+        (record { started = t; road = s .road; cycle = s .cycle; count = s .count; carriers = s .carriers })
+    by-started true = refl
+    by-started false = refl
