@@ -26,7 +26,7 @@ use Rattle.lane.proofs.empty.Reads as empty-reads
 use Rattle.console.specs.declared.Stepped.{Stepped}
 use Rattle.console.specs.Limits.{longestInput, answerSpace}
 use Rattle.console.specs.Blocks.{Parsed, parsed, malformed, past, afterLine, showCall, kindOf, linesOf, blockIn}
-use Rattle.console.specs.Program.{Step, halted, ran, stepOf, stepInto, StepGives, RunGives, outputFrom, tooLong, lengthAnswer, outputOf}
+use Rattle.console.specs.Program.{Step, halted, withoutRoom, ran, stepOf, stepInto, StepGives, RunGives, outputFrom, tooLong, lengthAnswer, outputOf}
 use Rattle.console.specs.Output.{refusal, printed}
 use Rattle.console.proofs.Printing.{short-line}
 use Rattle.console.proofs.Showing.{show-prints}
@@ -114,8 +114,8 @@ module _ {input : List ℕ} {before after : Words} {at : ℕ} {r : Stepped} {lef
       rw on (omega (arith, length-drop (x .used) (drop at input)))
 
 -- where the program stops, malformed blocks and short buffers included, the very lane is left
-stops-keeping : (s : State) (long ended : Bool) (p : Parsed) → cond long (cond ended (halted s) (ran s p)) (halted s) .stop ≡ true
-    → cond long (cond ended (halted s) (ran s p)) (halted s) .keeps ≡ true
+stops-keeping : (s : State) (long ended : Bool) (p : Parsed) → cond long (cond ended (halted s) (ran s p)) (withoutRoom s) .stop ≡ true
+    → cond long (cond ended (halted s) (ran s p)) (withoutRoom s) .keeps ≡ true
 stops-keeping s false ended p e = refl
 stops-keeping s true true p e = refl
 stops-keeping s true false (parsed x used) e = absurd (true≢false (sym e))
