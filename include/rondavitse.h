@@ -1,7 +1,8 @@
 /* Rondavitse: a supervisor for a lane of self-driving container carriers.
  *
  * A lane is a struct of the host's own: each call is lent it and changes it in place. `no` is 0 where a call is accepted; else it is the
- * number of its refusal, every value beside it is zero, and every word of the lane and every lent byte is as before. Positions count
+ * number of its refusal, every value beside it is zero (a step's place and stop apart), and every word of the lane and every lent byte is as
+ * before. Positions count
  * 1/2048 m, speeds 1/128 m/s, accelerations 1/16 m/s²; a cycle is 1/8 s.
  *
  * Any words may stand in the lane and any numbers may be given. The host sees to the pointers:
@@ -13,8 +14,9 @@
  * Refusals: 1 surface above 7; 2 lane end outside 1 to 2^31; 3 limit outside 1 to 8,192; 4 carrier number outside 1 to 65,535; 5 position
  * at or past the end; 6 speed above the limit; 7 a float outside its range; 8 malformed text; 9 lane text longer than the buffer;
  * 10 program input above 65,536 bytes; 11 a wish of no sort that exists, or units past 16 bits; 12 an array of wishes shorter than the
- * count; 21 never started, or the lane breaks a rule; 22 64 carriers present; 23 number present; 24 number absent; 25 not safe behind the
- * carrier ahead; 26 the carrier behind not safe; 27 count differs from the carriers present; 28 cycle number is 2^64 - 1.
+ * count; 13 a buffer for answers shorter than 4,096 bytes; 21 never started, or the lane breaks a rule; 22 64 carriers present; 23 number
+ * present; 24 number absent; 25 not safe behind the carrier ahead; 26 the carrier behind not safe; 27 count differs from the carriers
+ * present; 28 cycle number is 2^64 - 1.
  */
 #ifndef RONDAVITSE_H
 #define RONDAVITSE_H
@@ -101,7 +103,8 @@ typedef struct rondavitse_listed {
 typedef struct rondavitse_stepped {
     size_t next;    /* the place after the block; where stop is set, the place handed in */
     size_t written; /* the bytes put at the buffer's start */
-    bool stop;      /* nothing is left to run: the input has ended, its next block is malformed, or the buffer is too short */
+    uint32_t no;    /* the step's own: 13 or 0; a refused block's number is in its answer */
+    bool stop;      /* nothing is left to run: the input has ended, its next block is malformed, or the step is refused */
 } rondavitse_stepped;
 
 /* Makes an empty lane that was never started, whatever was there: every word becomes 0. */
@@ -136,9 +139,9 @@ rondavitse_read_out rondavitse_read(const rondavitse_lane *lane, uint64_t number
 rondavitse_listed rondavitse_lane_text(const rondavitse_lane *lane, uint8_t *out, size_t out_length);
 
 /* One block of call texts, read at the place `at` of the input and run on the lane; its answer is put at the buffer's start, and the bytes
- * after it stay as they were. A refused block's answer is `no=` and its number, 8 for a malformed one. A buffer shorter than
- * RONDAVITSE_ANSWER_BUFFER is left alone, and nothing is run. After a refused block, and where nothing is run, every word of the lane is as
- * before. The input's length is not looked at: 10 is the program's alone. */
+ * after it stay as they were. A refused block's answer is `no=` and its number, 8 for a malformed one: the step itself is then not refused.
+ * After a refused block, and where nothing is run, every word of the lane is as before. The input's length is not looked at: 10 is the
+ * program's alone. Checks: 13, a buffer shorter than RONDAVITSE_ANSWER_BUFFER, before anything else; `next` is then `at` and `stop` is set. */
 rondavitse_stepped rondavitse_step(rondavitse_lane *lane, const uint8_t *input, size_t input_length, size_t at, uint8_t *out,
                                    size_t out_length);
 

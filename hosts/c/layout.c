@@ -57,7 +57,8 @@ FIELD(rondavitse_listed, length, 8, 8);
 SIZE(rondavitse_stepped, 24);
 FIELD(rondavitse_stepped, next, 0, 8);
 FIELD(rondavitse_stepped, written, 8, 8);
-FIELD(rondavitse_stepped, stop, 16, 1);
+FIELD(rondavitse_stepped, no, 16, 4);
+FIELD(rondavitse_stepped, stop, 20, 1);
 
 enum { MOST = RONDAVITSE_MOST_CARRIERS, WORDS = sizeof(rondavitse_lane) / sizeof(uint64_t) };
 
@@ -268,14 +269,41 @@ static void check_step(void) {
     same("step", "next", got.next, (uint64_t)length - 1);
     same("step", "written", got.written, strlen("ok=leave\n"));
     same("step", "bytes", (uint64_t)memcmp(out, "ok=leave\n", strlen("ok=leave\n")), 0);
+    same("step", "no", got.no, 0);
     same("step", "stop", stop_of(&got), 0);
     same_state("step", &lane, &wanted);
     wanted = lane;
     got = rondavitse_step(&lane, (const uint8_t *)input, (size_t)length, got.next, out, sizeof out);
     same("malformed step", "next", got.next, (uint64_t)length - 1);
     same("malformed step", "written", got.written, strlen("no=8\n"));
+    same("malformed step", "no", got.no, 0);
     same("malformed step", "stop", stop_of(&got), 1);
     same_words("malformed step", &lane, &wanted);
+}
+
+/* Nothing is left to run, or the buffer is too short to: every byte and every word is as before. */
+static void idle_step(uint32_t no, size_t at, size_t out_length) {
+    const char input[] = "call=leave\ncar=41410\n";
+    uint8_t out[RONDAVITSE_ANSWER_BUFFER], kept_out[RONDAVITSE_ANSWER_BUFFER];
+    rondavitse_lane lane = lane_of(MOST), kept = lane;
+    memset(out, 0x5A, sizeof out);
+    memcpy(kept_out, out, sizeof out);
+    const rondavitse_stepped got = rondavitse_step(&lane, (const uint8_t *)input, sizeof input - 1, at, out, out_length);
+    same("idle step", "no", got.no, no);
+    same("idle step", "next", got.next, at);
+    same("idle step", "written", got.written, 0);
+    same("idle step", "stop", stop_of(&got), 1);
+    same("idle step", "bytes", (uint64_t)memcmp(out, kept_out, sizeof out), 0);
+    same_words("idle step", &lane, &kept);
+}
+
+static void check_idle_steps(void) {
+    const size_t end = strlen("call=leave\ncar=41410\n"), enough = RONDAVITSE_ANSWER_BUFFER;
+    idle_step(13, 0, enough - 1);
+    idle_step(13, 0, 0);
+    idle_step(13, end, enough - 1); /* before the end of the input is looked at */
+    idle_step(0, end, enough);
+    idle_step(0, SIZE_MAX, enough);
 }
 
 static void refused_start(uint32_t no, rondavitse_road road, rondavitse_lane lane) {
@@ -392,6 +420,7 @@ int main(void) {
     check_cycle();
     check_lane_text();
     check_step();
+    check_idle_steps();
     check_unsound();
     check_refused_arguments();
     check_refused_cycles();

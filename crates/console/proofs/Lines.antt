@@ -98,11 +98,11 @@ module _ {input : List ℕ} {at : ℕ} {whole : Parsed} where
         (record {
           state = g .state;
           kept = g .kept;
-          prints = record { next = p .next ∙ omega (arith, k .place-is); written-length = p .written-length; room = p .room; bytes = p .bytes; stop = p .stop };
+          prints = record { next = p .next ∙ omega (arith, k .place-is); written-length = p .written-length; room = p .room; bytes = p .bytes; no = p .no; stop = p .stop };
         })
 
 -- no block is read: 8 is printed, and the lane is left as it is
-pub refuses-8 : {whole : Parsed} → whole ≡ malformed → (l : Words) {at : ℕ} {buffer out : List ℕ} {r : Stepped} → Prints (refusal 8) at true buffer r out
+pub refuses-8 : {whole : Parsed} → whole ≡ malformed → (l : Words) {at : ℕ} {buffer out : List ℕ} {r : Stepped} → Prints (refusal 8) at 0 true buffer r out
     → RunGives l whole at buffer r l out
 refuses-8 e l p = rw e (record { state = refl; kept = λ k. refl; prints = rw add-zero p })
 

@@ -37,17 +37,18 @@ short-line key n h k = omega (arith, length-line key (decimal n), decimal-at-mos
 
 -- what is put at the start is printed
 pub prints-put : (next : ℕ) (stop : Bool) (output : List ℕ) {buffer out : List ℕ} {w : ℕ} → length output ≤ length buffer
-    → Put 0 output buffer out w → Prints output next stop buffer (record { next = next; written = w; stop = stop }) out
+    → Put 0 output buffer out w → Prints output next 0 stop buffer (record { next = next; written = w; no = 0; stop = stop }) out
 prints-put next stop output room p =
     record {
       next = refl;
       written-length = p .1 ∙ place-fits 0 output _ (omega arith) ∙ omega arith;
       room = room;
       bytes = p .0;
+      no = refl;
       stop = refl;
     }
 
-pub prints-length : {output buffer out : List ℕ} {next : ℕ} {stop : Bool} {r : Stepped} → Prints output next stop buffer r out → length out ≡ length buffer
+pub prints-length : {output buffer out : List ℕ} {next number : ℕ} {stop : Bool} {r : Stepped} → Prints output next number stop buffer r out → length out ≡ length buffer
 prints-length {output} {buffer} p = ap length (p .bytes) ∙ length-written 0 output buffer
 
 -- ---- a call on a lane has answered so
@@ -59,13 +60,13 @@ module _ (x : Call) {before after : Words} {a : Answer} (g : Gives x before a af
 
   -- what is printed for it is what the step prints that runs it
   module _ {next : ℕ} {buffer out : List ℕ} {r : Stepped} (kept : keepsLane x (callAnswer x (stateOf before)) ≡ true → after ≡ before) where
-    pub run-prints : Prints (printed x a) next false buffer r out → RunGives before (parsed x 0) next buffer r after out
+    pub run-prints : Prints (printed x a) next 0 false buffer r out → RunGives before (parsed x 0) next buffer r after out
     run-prints p = record { state = g .state; kept = kept; prints = rw (← g .answer, add-zero) p }
 
-    pub run-refused : (a .number ≡ 0 → ⊥) → Prints (refusal (a .number)) next false buffer r out → RunGives before (parsed x 0) next buffer r after out
+    pub run-refused : (a .number ≡ 0 → ⊥) → Prints (refusal (a .number)) next 0 false buffer r out → RunGives before (parsed x 0) next buffer r after out
     unfolding printed
     run-refused h p = run-prints (rw (ne-eqb (a .number) 0 h) p)
 
-    pub run-accepted : a .number ≡ 0 → Prints (acceptedText x a) next false buffer r out → RunGives before (parsed x 0) next buffer r after out
+    pub run-accepted : a .number ≡ 0 → Prints (acceptedText x a) next 0 false buffer r out → RunGives before (parsed x 0) next buffer r after out
     unfolding printed
     run-accepted e p = run-prints (rw (eq-eqb (a .number) 0 e) p)

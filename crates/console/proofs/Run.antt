@@ -4,7 +4,7 @@ use mathlib.Core.Path.{_≡_, refl, sym, ap, ap₂, _∙_}
 use mathlib.Core.Bool.{Bool, true, false, cond, true≢false}
 use mathlib.Core.List.{List, [], _++_, append-nil}
 use Prim.Native.Nat.{ℕ, zero, suc, _+_, _≤_, _<_}
-use native.Mathlib.Nat.{le-refl, zero-add}
+use native.Mathlib.Nat.{le-refl, zero-add, add-zero}
 use native.Mathlib.Decide.{decLt}
 use native.Mathlib.Omega.{arith}
 use borrow.Author.Tests.{lt-ltb}
@@ -16,7 +16,7 @@ use lib.Seq.{drop-drop, take-all, length-take-le}
 use Rattle.text.specs.Ascii.{ascii}
 use Rattle.text.specs.Fields.{lineLength, lineValue}
 use Rattle.text.specs.Numbers.{decimal}
-use Rattle.text.proofs.Laws.{length-line, place-fits, written-up-to}
+use Rattle.text.proofs.Laws.{length-line, place-fits, written-up-to, written-nothing}
 use Rattle.lane.specs.State.{State}
 use Rattle.lane.specs.Layout.{Words, stateOf}
 use Rattle.lane.specs.Rules.{broken}
@@ -26,11 +26,11 @@ use Rattle.lane.proofs.empty.Reads as empty-reads
 use Rattle.console.specs.declared.Stepped.{Stepped}
 use Rattle.console.specs.Limits.{longestInput, answerSpace}
 use Rattle.console.specs.Blocks.{Parsed, parsed, malformed, past, afterLine, showCall, kindOf, linesOf, blockIn}
-use Rattle.console.specs.Program.{Step, halted, ran, stepOf, stepInto, StepGives, RunGives, outputFrom, tooLong, lengthAnswer, outputOf}
+use Rattle.console.specs.Program.{Step, halted, withoutRoom, ran, stepOf, stepInto, StepGives, RunGives, outputFrom, tooLong, lengthAnswer, outputOf}
 use Rattle.console.specs.Output.{refusal, printed}
 use Rattle.console.proofs.Printing.{short-line}
 use Rattle.console.proofs.Showing.{show-prints}
-use Rattle.console.proofs.Steps.{step-into, at-end, at-block}
+use Rattle.console.proofs.Steps.{too-short, step-into, at-end, at-block}
 use Rattle.console.proofs.step.Reads as step-reads
 use Rattle.console.proofs.refuse_long.Reads as long-reads
 
@@ -114,8 +114,8 @@ module _ {input : List ℕ} {before after : Words} {at : ℕ} {r : Stepped} {lef
       rw on (omega (arith, length-drop (x .used) (drop at input)))
 
 -- where the program stops, malformed blocks and short buffers included, the very lane is left
-stops-keeping : (s : State) (long ended : Bool) (p : Parsed) → cond long (cond ended (halted s) (ran s p)) (halted s) .stop ≡ true
-    → cond long (cond ended (halted s) (ran s p)) (halted s) .keeps ≡ true
+stops-keeping : (s : State) (long ended : Bool) (p : Parsed) → cond long (cond ended (halted s) (ran s p)) (withoutRoom s) .stop ≡ true
+    → cond long (cond ended (halted s) (ran s p)) (withoutRoom s) .keeps ≡ true
 stops-keeping s false ended p e = refl
 stops-keeping s true true p e = refl
 stops-keeping s true false (parsed x used) e = absurd (true≢false (sym e))
@@ -126,6 +126,32 @@ pub stopped-lane : (before after : Words) (t : List ℕ) {at : ℕ} {buffer left
 unfolding stepInto stepOf
 stopped-lane before after t {buffer = buffer} g e =
     g .kept (stops-keeping (stateOf before) (leb answerSpace (length buffer)) (eqb (length t) 0) (blockIn t) (sym (g .prints .stop) ∙ e))
+
+-- a step has a number of its own only where its buffer is too short: whether the input has ended or a block is read, the number is 0
+own-number : (s : State) (ended : Bool) (p : Parsed) → cond ended (halted s) (ran s p) .number ≡ 0
+own-number s true p = refl
+own-number s false (parsed x used) = refl
+own-number s false malformed = refl
+
+module _ (before after : Words) (t : List ℕ) {at : ℕ} {buffer left : List ℕ} {r : Stepped}
+    (g : StepGives before (stepInto buffer (stateOf before) t) at buffer r after left) where
+  enough-room : answerSpace ≤ length buffer → r .no ≡ 0
+  unfolding stepOf
+  enough-room h = rw (step-into buffer (stateOf before) t h) at (g .prints .no) ∙ own-number (stateOf before) (eqb (length t) 0) (blockIn t)
+
+  -- a step that is refused has everything as before: the place, the very lane and every lent byte
+  pub refused-step : (r .no ≡ 0 → ⊥)
+      → (r ≡ record { next = at; written = 0; no = 13; stop = true }) × ((after ≡ before) × ((left ≡ buffer) × (length buffer < answerSpace)))
+  refused-step n =
+      let short : length buffer < answerSpace = by-room (decLt (length buffer) answerSpace) in
+      let h : StepGives before (withoutRoom (stateOf before)) at buffer r after left = rw (too-short buffer (stateOf before) t short) at g in
+      let p = h .prints in
+      let place : r .next ≡ at = p .next ∙ add-zero at in
+      (λ i. record { next = place i; written = p .written-length i; no = p .no i; stop = p .stop i }, (h .kept refl, (p .bytes ∙ written-nothing 0 buffer, short)))
+    where
+      by-room : Dec (length buffer < answerSpace) → length buffer < answerSpace
+      by-room (yes h) = h
+      by-room (no h) = absurd (n (enough-room (omega arith)))
 
 from : (input : List ℕ) (n : ℕ) {l : Words} {at : ℕ} {out : List ℕ} → Ran input l at out → length (drop at input) ≤ n
     → out ≡ outputFrom n (stateOf l) (drop at input)

@@ -63,7 +63,7 @@ module _ (l : Words) (xs : List ℕ) (room : answerSpace ≤ length xs) {n k : �
 
   -- what is printed for that answer is what a show prints
   run-shows : (output : List ℕ) → printed (text-call (part xs)) (told n k ys) ≡ output → {next : ℕ} {out : List ℕ} {r : Stepped}
-      → Prints output next false xs r out → RunGives l (parsed showCall 0) next xs r l out
+      → Prints output next 0 false xs r out → RunGives l (parsed showCall 0) next xs r l out
   unfolding showCall
   run-shows output e p =
       let alike = show-prints l ∙ sym (shows l (part xs) (omega (arith, part-length))) in
@@ -72,13 +72,13 @@ module _ (l : Words) (xs : List ℕ) (room : answerSpace ≤ length xs) {n k : �
   number : n ≡ textNo (stateOf l) (part xs)
   number = ap (λ (a : Answer). a .number) (g .answer) ∙ answer-number (text-call (part xs)) (stateOf l)
 
-  pub show-refused : (n ≡ 0 → ⊥) → {next : ℕ} {out : List ℕ} {r : Stepped} → Prints (refusal n) next false (with-part xs ys) r out
+  pub show-refused : (n ≡ 0 → ⊥) → {next : ℕ} {out : List ℕ} {r : Stepped} → Prints (refusal n) next 0 false (with-part xs ys) r out
       → RunGives l (parsed showCall 0) next xs r l out
   unfolding printed
   show-refused h {next} {out} {r} p =
       let as-before : ys ≡ part xs = ap (λ (a : Answer). a .bytes) (g .answer ∙ text-refused (stateOf l) (part xs) (λ e. h (number ∙ e))) in
       let same : with-part xs ys ≡ xs = ap (λ (b : List ℕ). with-part xs b) as-before ∙ put-same 8 (length xs - 8) xs in
-      run-shows (refusal n) (rw (ne-eqb n 0 h) refl) (subst (λ (b : List ℕ). Prints (refusal n) next false b r out) same p)
+      run-shows (refusal n) (rw (ne-eqb n 0 h) refl) (subst (λ (b : List ℕ). Prints (refusal n) next 0 false b r out) same p)
 
   module _ (accepted : n ≡ 0) where
     abbrev text : List ℕ
@@ -119,7 +119,7 @@ module _ (l : Words) (xs : List ℕ) (room : answerSpace ≤ length xs) {n k : �
       pub show-fits : w + k ≤ length xs
       show-fits = omega (arith, place, long, fits)
 
-      pub show-accepted : {next : ℕ} → RunGives l (parsed showCall 0) next xs (record { next = next; written = w + k; stop = false }) l out
+      pub show-accepted : {next : ℕ} → RunGives l (parsed showCall 0) next xs (record { next = next; written = w + k; no = 0; stop = false }) l out
       unfolding printed
       show-accepted {next} =
           let whole : length (ascii "ok=show\n" ++ text) ≡ 8 + length text = length-append (ascii "ok=show\n") text in

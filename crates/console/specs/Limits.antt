@@ -5,6 +5,6 @@ use Prim.Native.Nat.{ℕ}
 abbrev pub longestInput : ℕ
 longestInput = 65536
 
--- decided: the bytes of a buffer that every answer fits into; `step` does nothing with a shorter one
+-- decided: the bytes of a buffer that every answer fits into; `step` refuses a shorter one by 13
 abbrev pub answerSpace : ℕ
 answerSpace = 4096

@@ -18,20 +18,23 @@ pub const LONGEST_INPUT: usize = 65536;
 // The bytes of a buffer that every answer fits into.
 pub const ANSWER_SPACE: usize = 4096;
 
-// The place after the block, the bytes put into the buffer, and whether the program stops there.
+// The place after the block, the bytes put into the buffer, the number by which the step itself is refused, or 0, and whether the program
+// stops there. A refused block's number is in its answer: the step has then done what it is for.
 #[repr(C)]
 pub struct Stepped {
     pub next: usize,
     pub written: usize,
+    pub no: u32,
     pub stop: bool,
 }
 
-fn halted(at: usize) -> Stepped
-    ensures { λ r. ⌜ r ≡ record { next = at; written = 0; stop = true } ⌝ }
+fn halted(at: usize, no: u32) -> Stepped
+    ensures { λ r. ⌜ r ≡ record { next = at; written = 0; no = no; stop = true } ⌝ }
 {
     Stepped {
         next: at,
         written: 0,
+        no,
         stop: true,
     }
 }
@@ -54,10 +57,10 @@ pub fn step(l: &mut Lane, input: &[u8], at: usize, out: &mut [u8]) -> Stepped
     ensures { λ r. ⌜ StepGives (now (l .entry)) (stepInto (now (out .entry)) (stateOf (now (l .entry))) (drop at (now (input .entry)))) at (now (out .entry)) r (now (l .exit)) (now (out .exit)) ⌝ }
 {
     if out.len() < ANSWER_SPACE {
-        return halted(at);
+        return halted(at, 13);
     }
     if input.len() <= at {
-        return halted(at);
+        return halted(at, 0);
     }
     blocks::block(l, input, at, out)
 }

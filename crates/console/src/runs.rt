@@ -27,12 +27,13 @@ pub(crate) fn put_refusal(no: u32, out: &mut [u8]) -> usize
 // A refusal by its number.
 pub(crate) fn refused(next: usize, no: u32, stop: bool, out: &mut [u8]) -> Stepped
     requires { ⌜ answerSpace ≤ length (now out) ⌝ }
-    ensures { λ r. ⌜ Prints (refusal no) next stop (now (out .entry)) r (now (out .exit)) ⌝ }
+    ensures { λ r. ⌜ Prints (refusal no) next 0 stop (now (out .entry)) r (now (out .exit)) ⌝ }
 {
     let written = put_refusal(no, out);
     Stepped {
         next,
         written,
+        no: 0, // the block's own is printed
         stop,
     }
 }
@@ -40,7 +41,7 @@ pub(crate) fn refused(next: usize, no: u32, stop: bool, out: &mut [u8]) -> Stepp
 // The answer of a call that prints one line where it is accepted.
 fn answered(next: usize, no: u32, line: &[u8], out: &mut [u8]) -> Stepped
     requires { ⌜ (answerSpace ≤ length (now out)) × (length (now line) ≤ answerSpace) ⌝ }
-    ensures { λ r. ⌜ Prints (ifAccepted no (now (line .entry)) (refusal no)) next false (now (out .entry)) r (now (out .exit)) ⌝ }
+    ensures { λ r. ⌜ Prints (ifAccepted no (now (line .entry)) (refusal no)) next 0 false (now (out .entry)) r (now (out .exit)) ⌝ }
 {
     if no != 0 {
         return refused(next, no, false, out);
@@ -49,6 +50,7 @@ fn answered(next: usize, no: u32, line: &[u8], out: &mut [u8]) -> Stepped
     Stepped {
         next,
         written,
+        no: 0,
         stop: false,
     }
 }
@@ -80,6 +82,7 @@ pub(crate) fn run_enter(l: &mut Lane, c: Carrier, next: usize, out: &mut [u8]) -
     Stepped {
         next,
         written,
+        no: 0,
         stop: false,
     }
 }
@@ -112,6 +115,7 @@ pub(crate) fn run_cycle(
     Stepped {
         next,
         written,
+        no: 0,
         stop: false,
     }
 }
@@ -128,6 +132,7 @@ pub(crate) fn run_show(l: &Lane, next: usize, out: &mut [u8]) -> Stepped
     Stepped {
         next,
         written: first + a.length,
+        no: 0,
         stop: false,
     }
 }

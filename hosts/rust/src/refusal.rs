@@ -19,6 +19,7 @@ pub enum Refusal {
     InputTooLong = 10,
     WishUnknown = 11,
     WishesTooFew = 12,
+    AnswerBufferTooShort = 13,
     LaneUnsound = 21,
     LaneFull = 22,
     NumberPresent = 23,
@@ -32,7 +33,7 @@ pub enum Refusal {
 use Refusal::*;
 
 impl Refusal {
-    pub const ALL: [Refusal; 20] = [
+    pub const ALL: [Refusal; 21] = [
         SurfaceUnknown,
         EndOutOfRange,
         LimitOutOfRange,
@@ -45,6 +46,7 @@ impl Refusal {
         InputTooLong,
         WishUnknown,
         WishesTooFew,
+        AnswerBufferTooShort,
         LaneUnsound,
         LaneFull,
         NumberPresent,

@@ -8,6 +8,18 @@ use crate::text;
 /// The most bytes of input that are read.
 pub const LONGEST_INPUT: usize = 65_536;
 
+/// The least buffer of a step.
+pub const ANSWER_BUFFER: usize = 4_096;
+
+/// What a step of the library gives, and what it puts at its buffer's start.
+pub struct Stepped {
+    pub next: usize,
+    pub answer: Vec<u8>,
+    /// 0, or the number by which the step itself is refused.
+    pub no: u32,
+    pub stop: bool,
+}
+
 /// The whole output for the whole input.
 pub fn run(input: &[u8]) -> Vec<u8> {
     run_on(Lane::default(), input)
@@ -18,22 +30,45 @@ pub fn run_on(mut lane: impl Supervisor, input: &[u8]) -> Vec<u8> {
     if input.len() > LONGEST_INPUT {
         return refused(Refusal::InputTooLong);
     }
-    let mut output = Vec::new();
-    let mut rest = input;
-    while !rest.is_empty() {
-        // A block is read whole before it is run.
-        match text::block(rest) {
-            Ok((call, after)) => {
-                rest = after;
-                output.extend(lane.call(&call).map_or_else(refused, answered));
-            }
-            Err(refusal) => {
-                output.extend(refused(refusal));
-                break;
-            }
+    let (mut output, mut at) = (Vec::new(), 0);
+    loop {
+        let stepped = step(&mut lane, input, at, ANSWER_BUFFER);
+        output.extend(stepped.answer);
+        if stepped.stop {
+            return output;
         }
+        at = stepped.next;
     }
-    output
+}
+
+/// The block at a place of the input, with a buffer of so many bytes for its answer.
+pub fn step(lane: &mut impl Supervisor, input: &[u8], at: usize, room: usize) -> Stepped {
+    let idle = |refusal: Option<Refusal>| Stepped {
+        next: at,
+        answer: Vec::new(),
+        no: refusal.map_or(0, Refusal::number),
+        stop: true,
+    };
+    if room < ANSWER_BUFFER {
+        return idle(Some(Refusal::AnswerBufferTooShort));
+    }
+    let rest = input.get(at..).unwrap_or_default();
+    if rest.is_empty() {
+        return idle(None);
+    }
+    // A block is read whole before it is run.
+    match text::block(rest) {
+        Ok((call, after)) => Stepped {
+            next: input.len() - after.len(),
+            answer: lane.call(&call).map_or_else(refused, answered),
+            no: 0,
+            stop: false,
+        },
+        Err(refusal) => Stepped {
+            answer: refused(refusal),
+            ..idle(None)
+        },
+    }
 }
 
 fn refused(refusal: Refusal) -> Vec<u8> {

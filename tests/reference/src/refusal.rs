@@ -18,6 +18,8 @@ pub enum Refusal {
     WishUnknown = 11,
     /// Of wishes given as numbers alone: fewer of them than the count.
     WishesTooFew = 12,
+    /// Of a step alone, whose buffer has to hold every answer.
+    AnswerBufferTooShort = 13,
     LaneUnsound = 21,
     LaneFull = 22,
     NumberPresent = 23,

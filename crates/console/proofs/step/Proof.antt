@@ -1,9 +1,9 @@
--- `console::step` meets its contract: nothing is done in a short buffer or at the end of the input, else the block is read and run.
+-- `console::step` meets its contract: a short buffer is refused, at the end of the input nothing is done, else the block is read and run.
 use borrow.Author.Needs.{needs}
 use native.Mathlib.Omega.{arith}
 use lib.ListN.{drop, length-drop}
 use Rattle.lane.specs.Layout.{stateOf}
-use Rattle.console.proofs.Steps.{too-short, step-into, at-end, at-block, gives-halted}
+use Rattle.console.proofs.Steps.{too-short, step-into, at-end, at-block, gives-nothing}
 use Rattle.console.proofs.step.Statement.{statement}
 use Rattle.console.proofs.step.Tie as tie
 
@@ -14,7 +14,7 @@ returns : tie.Need-returns
 returns c =
     let a = c .before .before .before .before .args in
     rw (c .halted .ensures, too-short (a .out .now) (stateOf (a .l .now)) (drop (a .at) (a .input .now)) (c .before .if1 .taken))
-    (gives-halted (a .l .now) (a .at) (a .out .now))
+    (gives-nothing (a .l .now) (a .at) 13 (a .out .now))
 
 halted-requires-2 : tie.Need-halted-requires-2
 halted-requires-2 c κs = search needs
@@ -25,7 +25,7 @@ returns-2 c =
     let t = drop (a .at) (a .input .now) in
     let s = stateOf (a .l .now) in
     rw (c .halted2 .ensures, step-into (a .out .now) s t (omega arith), at-end s t (omega (arith, length-drop (a .at) (a .input .now))))
-    (gives-halted (a .l .now) (a .at) (a .out .now))
+    (gives-nothing (a .l .now) (a .at) 0 (a .out .now))
 
 block-requires : tie.Need-block-requires
 block-requires c κs = search needs

@@ -59,6 +59,7 @@ pub struct Listed {
 pub struct Stepped {
     pub next: usize,
     pub written: usize,
+    pub no: u32,
     pub stop: Flag,
 }
 

@@ -7,9 +7,11 @@ use super::words;
 use lane_reference::Call;
 
 /// One step of the program.
+#[derive(Debug, PartialEq, Eq)]
 pub struct Step {
     pub next: usize,
     pub written: usize,
+    pub no: u32,
     pub stop: bool,
 }
 
@@ -91,6 +93,7 @@ pub fn step(lane: &mut Words, input: &[u8], at: usize, out: &mut [u8]) -> Step {
     Step {
         next: stepped.next,
         written: stepped.written,
+        no: stepped.no,
         stop: stepped.stop.into(),
     }
 }

@@ -4,12 +4,8 @@ use super::binding::Words;
 use super::host::{self, Step};
 use super::outcome::{lent, settled, within};
 use super::words;
-use lane_reference::program::{run_on, LONGEST_INPUT};
-use lane_reference::text::block;
-use lane_reference::{FastLane, Supervisor};
-
-/// The least buffer that a step takes.
-const ROOM: usize = 4_096;
+use lane_reference::program::{self, Stepped, ANSWER_BUFFER, LONGEST_INPUT};
+use lane_reference::FastLane;
 
 /// How many steps were made, and what the last of them did wrong.
 pub fn run(input: &[u8]) -> (u64, Result<(), String>) {
@@ -17,64 +13,68 @@ pub fn run(input: &[u8]) -> (u64, Result<(), String>) {
     if input.len() > LONGEST_INPUT {
         return (steps, Ok(())); // Refused by the program, before any step.
     }
-    while at < input.len() {
+    loop {
         steps += 1;
         words::scramble(&mut lane, steps);
-        match step(&mut lane, input, at) {
-            Ok(Some(next)) => at = next,
-            Ok(None) => break,
+        match in_rooms(&mut lane, input, at, steps as usize) {
+            Ok(Stepped { stop: true, .. }) => break,
+            Ok(Stepped { next, .. }) => at = next,
             Err(what) => return (steps, Err(format!("the step at {at}: {what}"))),
+        }
+    }
+    for past in [input.len(), input.len() + 1, usize::MAX] {
+        if let Err(what) = in_rooms(&mut lane, input, past, steps as usize) {
+            return (steps, Err(format!("the step at the end, {past}: {what}")));
         }
     }
     (steps, Ok(()))
 }
 
-/// The place after a step; nothing after a malformed block.
-fn step(lane: &mut Words, input: &[u8], at: usize) -> Result<Option<usize>, String> {
-    short_buffer(lane, input, at)?;
+/// A step in buffers that are too short, which change nothing, and then in
+/// one that is just long enough or longer by a byte.
+fn in_rooms(lane: &mut Words, input: &[u8], at: usize, turn: usize) -> Result<Stepped, String> {
+    for short in [ANSWER_BUFFER - 1, turn % ANSWER_BUFFER] {
+        step(lane, input, at, short)?;
+    }
+    step(lane, input, at, ANSWER_BUFFER + turn % 2)
+}
+
+/// What the reference gives for a step, if the product gives and does the same.
+fn step(lane: &mut Words, input: &[u8], at: usize, room: usize) -> Result<Stepped, String> {
     let before = *lane;
-    let mut out = lent(ROOM);
+    let mut out = lent(room);
     let step = host::step(lane, input, at, within(&mut out));
-    let Ok((call, rest)) = block(&input[at..]) else {
-        printed(&step, out, b"no=8\n")?;
-        require(step.stop, "a malformed block ends the program")?;
-        require(step.next == at, "a malformed block is passed over")?;
-        require(*lane == before, "a malformed block changes nothing")?;
-        return Ok(None);
-    };
-    let next = input.len() - rest.len();
     let mut expected = FastLane(words::lane(&before));
-    printed(&step, out, &run_on(expected, &input[at..next]))?;
-    require(step.next == next, "the next block begins elsewhere")?;
-    // Whether the last block ends the program or its caller does is not said.
-    require(!step.stop || rest.is_empty(), "the program ends too early")?;
-    let refused = expected.call(&call).is_err();
-    require(!refused || *lane == before, "a refused call changes a word")?;
+    let wanted = program::step(&mut expected, input, at, room);
+    compared(&step, &wanted, room, out)?;
+    // A refused block is answered by its number, and a show changes nothing.
+    let told = |answer: &[u8]| wanted.answer.starts_with(answer);
+    let kept = wanted.stop || told(b"no=") || told(b"ok=show");
+    require(!kept || *lane == before, "a word is changed")?;
     let same = settled(&words::lane(lane)) == settled(&expected.0);
     require(same, "another lane")?;
-    Ok(Some(next))
+    Ok(wanted)
 }
 
-/// With a buffer one byte too short nothing is run and nothing written.
-fn short_buffer(lane: &mut Words, input: &[u8], at: usize) -> Result<(), String> {
-    let before = *lane;
-    let mut out = lent(ROOM - 1);
-    let step = host::step(lane, input, at, within(&mut out));
-    let idle = step.stop && step.next == at && step.written == 0;
-    let kept = *lane == before && out == lent(ROOM - 1);
-    require(idle && kept, "a step with a short buffer does something")
-}
-
-/// The answer and nothing else is written.
-fn printed(step: &Step, mut out: Vec<u8>, answer: &[u8]) -> Result<(), String> {
-    let mut expected = lent(ROOM);
-    within(&mut expected)[..answer.len()].copy_from_slice(answer);
-    if step.written == answer.len() && out == expected {
+/// The same is returned, and the answer and nothing else is written.
+fn compared(step: &Step, wanted: &Stepped, room: usize, mut out: Vec<u8>) -> Result<(), String> {
+    let length = wanted.answer.len();
+    let as_wanted = Step {
+        next: wanted.next,
+        written: length,
+        no: wanted.no,
+        stop: wanted.stop,
+    };
+    let mut expected = lent(room);
+    within(&mut expected)[..length].copy_from_slice(&wanted.answer);
+    if *step == as_wanted && out == expected {
         return Ok(());
     }
-    let written = &within(&mut out)[..step.written.min(ROOM)];
-    let (wanted, got) = (answer.escape_ascii(), written.escape_ascii());
-    Err(format!("wanted {wanted}\ngot {got}"))
+    let written = &within(&mut out)[..step.written.min(room)];
+    let (answer, got) = (wanted.answer.escape_ascii(), written.escape_ascii());
+    Err(format!(
+        "room {room}\nwanted {as_wanted:?} {answer}\ngot {step:?} {got}"
+    ))
 }
 
 fn require(condition: bool, otherwise: &str) -> Result<(), String> {
