@@ -3,3 +3,4 @@ pub mod Limits
 pub mod Blocks
 pub mod Output
 pub mod Program
+pub mod History

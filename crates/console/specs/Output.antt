@@ -1,6 +1,6 @@
 -- Document 01, "Call texts": what the program prints for a call, by the call's answer.
 use Prim.Native.Nat.{ℕ}
-use mathlib.Core.Bool.{Bool, true}
+use mathlib.Core.Bool.{Bool, _||_}
 use mathlib.Core.List.{List, [], _++_}
 use lib.Dec.{ltb}
 use lib.ListN.{take}
@@ -8,7 +8,7 @@ use Rattle.text.specs.Ascii.{ascii}
 use Rattle.text.specs.Numbers.{decimal, hexadecimal}
 use Rattle.text.specs.Lines.{line}
 use Rattle.lane.specs.Calls.{ifAccepted}
-use Rattle.lane.specs.Call.{Call, start-call, enter-call, leave-call, cycle-call, read-call, text-call, Answer}
+use Rattle.lane.specs.Call.{Call, start-call, enter-call, leave-call, cycle-call, read-call, text-call, Answer, meaning}
 
 -- "A refusal prints `no=` and its number"
 unfoldable pub refusal : ℕ → List ℕ
@@ -29,11 +29,6 @@ acceptedText (text-call buffer) a = ascii "ok=show\n" ++ take (a .long) (a .byte
 unfoldable pub printed : Call → Answer → List ℕ
 printed x a = ifAccepted (a .number) (acceptedText x a) (refusal (a .number))
 
--- whether a call leaves the very lane, every word of it as it was: where it is refused, and read and lane text always
+-- whether a call leaves the very lane, every word of it as it was: where it only reads, and where it is refused
 abbrev pub keepsLane : Call → Answer → Bool
-keepsLane (start-call road first) a = ltb 0 (a .number)
-keepsLane (enter-call c) a = ltb 0 (a .number)
-keepsLane (leave-call number) a = ltb 0 (a .number)
-keepsLane (cycle-call count ws) a = ltb 0 (a .number)
-keepsLane (read-call number) a = true
-keepsLane (text-call buffer) a = true
+keepsLane x a = meaning x .reads || ltb 0 (a .number)

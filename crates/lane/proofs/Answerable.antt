@@ -2,7 +2,7 @@
 use mathlib.Core.Path.{_≡_, refl, sym, ap, _∙_, subst}
 use mathlib.Core.Bool.{Bool, true, false, true≢false}
 use mathlib.Core.List.{[]}
-use Prim.Native.Nat.{ℕ}
+use Prim.Native.Nat.{ℕ, _≤_}
 use native.Mathlib.Omega.{arith}
 use borrow.Author.Tests.{eqb-true, eqb-false}
 use lib.Dec.{eqb}
@@ -14,6 +14,7 @@ use Rattle.lane.specs.declared.Cycled.{Cycled}
 use Rattle.lane.specs.declared.Entered.{Entered}
 use Rattle.lane.specs.declared.Listed.{Listed}
 use Rattle.lane.specs.declared.ReadOut.{ReadOut}
+use Rattle.lane.specs.Limits.{mostCarriers}
 use Rattle.lane.specs.State.{State}
 use Rattle.lane.specs.Layout.{Words, stateOf}
 use Rattle.lane.specs.Calls.{none, begunState, walk, enteredState, leftState, namedNo, namedCarrier, namedReading, cycleWord, cycleReplaced, cycleGone, cycledState}
@@ -21,7 +22,7 @@ use Rattle.lane.specs.Listing.{laneText}
 use Rattle.lane.specs.Call.{Call, start-call, enter-call, leave-call, cycle-call, read-call, text-call, Answer, bare, meaning, callNo, acceptedState, lentTo, acceptedAnswer, callAnswer, Gives, entered, cycled, readOut, listed}
 use Rattle.lane.proofs.checks.Records.{wordsFor, words-for}
 use Rattle.lane.proofs.checks.Soundness.{fit-at, fit-narrow}
-use Rattle.lane.proofs.calls.Answers.{refused-changes-nothing, refused-answers, accepted-changes, accepted-answers, answer-number, named-tells}
+use Rattle.lane.proofs.calls.Answers.{refused-changes-nothing, refused-answers, accepted-changes, accepted-answers, answer-number, counted-most, enter-tells, walk-le, named-tells, ready-tells, cycle-tells}
 
 -- ---- the lane that is left
 
@@ -94,6 +95,32 @@ returned x s = by-test (eqb (callNo x s) 0) refl
     by-test : (t : Bool) → eqb (callNo x s) 0 ≡ t → Returned x (callAnswer x s)
     by-test true e = subst (Returned x) (sym (accepted-answers x s (eqb-true _ 0 e))) (accepted-returned x s)
     by-test false e = subst (Returned x) (sym (refused-answers x s (eqb-false _ 0 e))) (refused-returned x (callNo x s))
+
+-- a place and a number gone are at most 64
+pub record Small (a : Answer) : Type 0 where
+  pub place : a .place ≤ mostCarriers
+  pub gone : a .gone ≤ mostCarriers
+
+accepted-small : (x : Call) (l : Words) → callNo x (stateOf l) ≡ 0 → Small (acceptedAnswer x (stateOf l))
+unfolding cycleGone
+accepted-small (start-call road first) l z = record { place = omega arith; gone = omega arith }
+accepted-small (enter-call c) l z =
+    let s = stateOf l in
+    record { place = omega (arith, walk-le (c .position) (s .carriers), counted-most l, enter-tells s c z .sound .count); gone = omega arith }
+accepted-small (leave-call number) l z = record { place = omega arith; gone = omega arith }
+accepted-small (cycle-call count ws) l z =
+    let s = stateOf l in
+    record { place = omega arith; gone = omega (arith, ready-tells s count (cycle-tells s count ws z .0) .sound .count) }
+accepted-small (read-call number) l z = record { place = omega arith; gone = omega arith }
+accepted-small (text-call buffer) l z = record { place = omega arith; gone = omega arith }
+
+pub small : (x : Call) (l : Words) → Small (callAnswer x (stateOf l))
+small x l = by-test (eqb (callNo x (stateOf l)) 0) refl
+  where
+    by-test : (t : Bool) → eqb (callNo x (stateOf l)) 0 ≡ t → Small (callAnswer x (stateOf l))
+    by-test true e = let z = eqb-true _ 0 e in subst Small (sym (accepted-answers x (stateOf l) z)) (accepted-small x l z)
+    by-test false e =
+        subst Small (sym (refused-answers x (stateOf l) (eqb-false _ 0 e))) (record { place = omega arith; gone = omega arith })
 
 -- a reading that is answered is exact
 pub read-exact : (s : State) (number : ℕ) → callAnswer (read-call number) s .number ≡ 0

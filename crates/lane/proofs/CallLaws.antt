@@ -1,9 +1,9 @@
 -- What a call does, for the crates above, which leave the calls' definitions shut: laws of every call, and what an accepted one does.
 use mathlib.Core.Path.{_≡_, refl, sym, subst}
-use mathlib.Core.Bool.{Bool, true, false, not, _&&_, cond}
+use mathlib.Core.Bool.{Bool, true, false, not, _&&_, cond, true≢false, and-eq-true-iff}
 use mathlib.Core.List.{List, [], _∷_}
 use Prim.Native.Nat.{ℕ, suc, _<_}
-use borrow.Author.Tests.{eqb-false}
+use borrow.Author.Tests.{ltb-true}
 use lib.Dec.{eqb, leb, ltb}
 use lib.ListN.{length, getD, take}
 use Rattle.wish.specs.declared.Wish.{Wish}
@@ -27,78 +27,87 @@ pub use Rattle.lane.proofs.calls.Answers.{refused-changes-nothing, answ
 
 -- ---- of every call
 
--- numbers of which none is 21: after the check of the state, one of two, a check and the later ones, the last check
-unbroken-check : (s : State) (later : ℕ) → Kept s → ¬ (later ≡ 21) → ¬ (cond (broken s) 21 later ≡ 21)
-unbroken-check s later h p = rw (h .unbroken) p
+-- a number that a call may give: of two digits at most, and 21 only on a state that breaks a rule
+abbrev lawfulNo : (breaks : Bool) → ℕ → Bool
+lawfulNo breaks n = not (eqb n 21 && not breaks) && ltb n 100
 
-one-of : (t : Bool) (a b : ℕ) → ¬ (a ≡ 21) → ¬ (b ≡ 21) → ¬ (cond t a b ≡ 21)
-one-of true a b p q = p
-one-of false a b p q = q
+-- one of two, a check of the state and the later ones, a check and the later ones, the last check
+one-of : (breaks t : Bool) (a b : ℕ) → lawfulNo breaks a ≡ true → lawfulNo breaks b ≡ true → lawfulNo breaks (cond t a b) ≡ true
+one-of breaks true a b p q = p
+one-of breaks false a b p q = q
 
-check : (t : Bool) (number later : ℕ) → eqb number 21 ≡ false → ¬ (later ≡ 21) → ¬ (cond t number later ≡ 21)
-check t number later e h = one-of t number later (eqb-false number 21 e) h
+state-check : (breaks : Bool) (later : ℕ) → lawfulNo breaks later ≡ true → lawfulNo breaks (cond breaks 21 later) ≡ true
+state-check true later p = refl
+state-check false later p = p
 
-last-check : (t : Bool) (number : ℕ) → eqb number 21 ≡ false → ¬ (cond t number 0 ≡ 21)
-last-check t number e = check t number 0 e (eqb-false 0 21 refl)
+last-check : (breaks t : Bool) (number : ℕ) → lawfulNo breaks number ≡ true → lawfulNo breaks (cond t number 0) ≡ true
+last-check breaks t number p = one-of breaks t number 0 p refl
 
-named-check : (s : State) (number : ℕ) → Kept s → ¬ (namedNo s number ≡ 21)
+named-check : (s : State) (number : ℕ) → lawfulNo (broken s) (namedNo s number) ≡ true
 unfolding namedNo
-named-check s number h =
-    unbroken-check s _ h (check (badNumber number) 4 _ refl (check (anyOf (numbered number) (s .carriers)) 0 24 refl (eqb-false 24 21 refl)))
+named-check s number =
+    let b = broken s in
+    state-check b _ (one-of b (badNumber number) 4 _ refl (one-of b (anyOf (numbered number) (s .carriers)) 0 24 refl refl))
 
-start-check : (road : Road) → ¬ (roadNo road ≡ 21)
+start-check : (breaks : Bool) (road : Road) → lawfulNo breaks (roadNo road) ≡ true
 unfolding roadNo
-start-check road =
-    check (ltb 7 (road .surface)) 1 _ refl
-    (check (outsideOf 1 farthestEnd (road .end)) 2 _ refl (last-check (outsideOf 1 fastest (road .limit)) 3 refl))
+start-check b road =
+    one-of b (ltb 7 (road .surface)) 1 _ refl
+    (one-of b (outsideOf 1 farthestEnd (road .end)) 2 _ refl (last-check b (outsideOf 1 fastest (road .limit)) 3 refl))
 
-enter-check : (s : State) (c : Carrier) → Kept s → ¬ (enterNo s c ≡ 21)
+enter-check : (s : State) (c : Carrier) → lawfulNo (broken s) (enterNo s c) ≡ true
 unfolding enterNo newcomerNo placeNo gapNo
-enter-check s c h =
+enter-check s c =
+    let b = broken s in
     let r = rowIn (s .road) in
     let place = walk (c .position) (s .carriers) in
-    unbroken-check s _ h
-    (one-of (eqb (newcomerNo (s .road) c) 0) _ _
-    (check (eqb (s .count) 64) 22 _ refl
-    (check (anyOf (numbered (c .number)) (s .carriers)) 23 _ refl
-    (check (not (safeWith r (aheadOf place (s .carriers)) c)) 25 _ refl
-    (last-check (ltb place (length (s .carriers)) && not (safeWith r (leader c) (getD (s .carriers) place none))) 26 refl))))
-    (check (badNumber (c .number)) 4 _ refl (check (leb (s .road .end) (c .position)) 5 _ refl (last-check (tooFast (s .road) c) 6 refl))))
+    state-check b _
+    (one-of b (eqb (newcomerNo (s .road) c) 0) _ _
+    (one-of b (eqb (s .count) 64) 22 _ refl
+    (one-of b (anyOf (numbered (c .number)) (s .carriers)) 23 _ refl
+    (one-of b (not (safeWith r (aheadOf place (s .carriers)) c)) 25 _ refl
+    (last-check b (ltb place (length (s .carriers)) && not (safeWith r (leader c) (getD (s .carriers) place none))) 26 refl))))
+    (one-of b (badNumber (c .number)) 4 _ refl
+    (one-of b (leb (s .road .end) (c .position)) 5 _ refl (last-check b (tooFast (s .road) c) 6 refl))))
 
-cycle-check : (s : State) (count : ℕ) (ws : List Wish) → Kept s → ¬ (cycleNo s count ws ≡ 21)
+cycle-check : (s : State) (count : ℕ) (ws : List Wish) → lawfulNo (broken s) (cycleNo s count ws) ≡ true
 unfolding readyNo cycleNo
-cycle-check s count ws h =
-    one-of (eqb (readyNo s count) 0) _ _ (last-check (anyOutside (s .carriers) (take (s .count) ws)) 7 refl)
-    (unbroken-check s _ h (check (not (eqb count (s .count))) 27 _ refl (last-check (eqb (s .cycle) lastCycle) 28 refl)))
+cycle-check s count ws =
+    let b = broken s in
+    one-of b (eqb (readyNo s count) 0) _ _ (last-check b (anyOutside (s .carriers) (take (s .count) ws)) 7 refl)
+    (state-check b _ (one-of b (not (eqb count (s .count))) 27 _ refl (last-check b (eqb (s .cycle) lastCycle) 28 refl)))
 
-text-check : (s : State) (buffer : List ℕ) → Kept s → ¬ (textNo s buffer ≡ 21)
+text-check : (s : State) (buffer : List ℕ) → lawfulNo (broken s) (textNo s buffer) ≡ true
 unfolding textNo
-text-check s buffer h = unbroken-check s _ h (last-check (ltb (length buffer) (length (laneText s))) 9 refl)
+text-check s buffer = let b = broken s in state-check b _ (last-check b (ltb (length buffer) (length (laneText s))) 9 refl)
 
--- what each call keeps: an accepted one leaves a state that breaks no rule, and such a state gets no 21
+-- what each call keeps: an accepted one leaves a state that breaks no rule; and its number is one that it may give
 record Lawful (m : Meaning) : Type 0 where
   keeps : (s : State) → s .count ≡ length (s .carriers) → m .number s ≡ 0 → Kept (m .after s)
-  never-21 : (s : State) → Kept s → ¬ (m .number s ≡ 21)
+  numbered : (s : State) → lawfulNo (broken s) (m .number s) ≡ true
 
 unchanged : (s : State) → s .count ≡ length (s .carriers) → Sound s → Kept s
 unchanged s counted h = record { unbroken = sound-holds s h; counted = counted }
 
 lawful : (x : Call) → Lawful (meaning x)
 unfolding namedNo textNo
-lawful (start-call road first) = record { keeps = λ s counted e. start-keeps road first e; never-21 = λ s h. start-check road }
-lawful (enter-call c) = record { keeps = λ s counted e. enter-keeps s counted c e; never-21 = λ s h. enter-check s c h }
-lawful (leave-call number) = record { keeps = λ s counted e. leave-keeps s counted number e; never-21 = λ s h. named-check s number h }
-lawful (cycle-call count ws) = record { keeps = λ s counted e. cycle-keeps s counted count ws e; never-21 = λ s h. cycle-check s count ws h }
+lawful (start-call road first) = record { keeps = λ s counted e. start-keeps road first e; numbered = λ s. start-check (broken s) road }
+lawful (enter-call c) = record { keeps = λ s counted e. enter-keeps s counted c e; numbered = λ s. enter-check s c }
+lawful (leave-call number) = record { keeps = λ s counted e. leave-keeps s counted number e; numbered = λ s. named-check s number }
+lawful (cycle-call count ws) = record { keeps = λ s counted e. cycle-keeps s counted count ws e; numbered = λ s. cycle-check s count ws }
 lawful (read-call number) =
-    record { keeps = λ s counted e. unchanged s counted (accepted-sound s _ e); never-21 = λ s h. named-check s number h }
+    record { keeps = λ s counted e. unchanged s counted (accepted-sound s _ e); numbered = λ s. named-check s number }
 lawful (text-call buffer) =
-    record { keeps = λ s counted e. unchanged s counted (accepted-sound s _ e); never-21 = λ s h. text-check s buffer h }
+    record { keeps = λ s counted e. unchanged s counted (accepted-sound s _ e); numbered = λ s. text-check s buffer }
 
 pub accepted-keeps : (x : Call) (s : State) → s .count ≡ length (s .carriers) → callNo x s ≡ 0 → Kept (callState x s)
 accepted-keeps x s counted e = subst Kept (sym (accepted-changes x s e)) (lawful x .keeps s counted e)
 
 pub kept-not-21 : (x : Call) (s : State) → Kept s → ¬ (callNo x s ≡ 21)
-kept-not-21 x s h = lawful x .never-21 s h
+kept-not-21 x s h e = true≢false (sym (rw (h .unbroken, e) at (lawful x .numbered s)))
+
+pub two-digits : (x : Call) (s : State) → callNo x s < 100
+two-digits x s = ltb-true (callNo x s) 100 (and-eq-true-iff (not (eqb (callNo x s) 21 && not (broken s))) (ltb (callNo x s) 100) .0 (lawful x .numbered s) .1)
 
 -- each carrier is below every one ahead
 pub kept-in-order : (s : State) → Kept s → (i j : ℕ) → i < j → j < length (s .carriers)

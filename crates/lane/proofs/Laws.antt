@@ -61,6 +61,11 @@ text-nine l buffer e =
     let why = by-nine (broken s) (ltb (length buffer) (length (laneText s))) e in
     omega (arith, ltb-true (length buffer) (length (laneText s)) (why .1), text-most l (why .0))
 
+-- and none that is told is longer
+pub text-short : (l : Words) (buffer : List ℕ) → textNo (stateOf l) buffer ≡ 0 → length (laneText (stateOf l)) ≤ longestText
+unfolding textNo
+text-short l buffer e = text-most l (passed (broken (stateOf l)) 20 _ e .0)
+
 -- ---- wishes of two arrays: as many as are counted
 pub wishes-enough : (count : ℕ) (sorts values : List ℕ) → wishesNo count sorts values ≡ 0 → count ≤ length (wishesGiven count sorts values)
 wishes-enough count sorts values e =
