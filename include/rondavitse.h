@@ -1,9 +1,8 @@
 /* Rondavitse: a supervisor for a lane of self-driving container carriers.
  *
  * A lane is a struct of the host's own: each call is lent it and changes it in place. `no` is 0 where a call is accepted; else it is the
- * number of its refusal, every value beside it is zero (a step's place and stop apart), and every word of the lane and every lent byte is as
- * before. Positions count
- * 1/2048 m, speeds 1/128 m/s, accelerations 1/16 m/s²; a cycle is 1/8 s.
+ * number of its refusal, every value beside it is zero (but for a step's `next` and `stop`), and every word of the lane and every lent byte
+ * is as before. Positions count 1/2048 m, speeds 1/128 m/s, accelerations 1/16 m/s²; a cycle is 1/8 s.
  *
  * Any words may stand in the lane and any numbers may be given. The host sees to the pointers:
  * - `lane` points to a whole lane, aligned as the struct is, that nobody else uses during the call; others may read one that is const;

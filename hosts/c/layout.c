@@ -281,14 +281,15 @@ static void check_step(void) {
     same_words("malformed step", &lane, &wanted);
 }
 
-/* Nothing is left to run, or the buffer is too short to: every byte and every word is as before. */
+static const char LEAVE[] = "call=leave\ncar=41410\n"; /* the carrier at the front */
+
+/* The input has ended or the buffer is too short: every byte and every word is as before. */
 static void idle_step(uint32_t no, size_t at, size_t out_length) {
-    const char input[] = "call=leave\ncar=41410\n";
     uint8_t out[RONDAVITSE_ANSWER_BUFFER], kept_out[RONDAVITSE_ANSWER_BUFFER];
     rondavitse_lane lane = lane_of(MOST), kept = lane;
     memset(out, 0x5A, sizeof out);
     memcpy(kept_out, out, sizeof out);
-    const rondavitse_stepped got = rondavitse_step(&lane, (const uint8_t *)input, sizeof input - 1, at, out, out_length);
+    const rondavitse_stepped got = rondavitse_step(&lane, (const uint8_t *)LEAVE, strlen(LEAVE), at, out, out_length);
     same("idle step", "no", got.no, no);
     same("idle step", "next", got.next, at);
     same("idle step", "written", got.written, 0);
@@ -298,7 +299,7 @@ static void idle_step(uint32_t no, size_t at, size_t out_length) {
 }
 
 static void check_idle_steps(void) {
-    const size_t end = strlen("call=leave\ncar=41410\n"), enough = RONDAVITSE_ANSWER_BUFFER;
+    const size_t end = strlen(LEAVE), enough = RONDAVITSE_ANSWER_BUFFER;
     idle_step(13, 0, enough - 1);
     idle_step(13, 0, 0);
     idle_step(13, end, enough - 1); /* before the end of the input is looked at */
