@@ -34,11 +34,11 @@ module _ (x : Call) (l : Words) where
   reads-as {a} r e = subst (λ (m : Words). Gives x l a m) (gives-some x l .2 r) (gives-as e)
 
 -- a lane lent to a call, as the contract of its function has it
-lends : {l : Words} {Says : Lfts 1 → RefT Words → Type 0} → Says ([], tt) (lent l) → OfLane l Says
+pub lends : {l : Words} {Says : Lfts 1 → RefT Words → Type 0} → Says ([], tt) (lent l) → OfLane l Says
 lends {l} s = record { κs = ([], tt); lane = lent l; before = refl; says = s }
 
 -- the two doubles of a read
-abbrev Exact : (s : State) (number : ℕ) → Answer → Type 0
+abbrev pub Exact : (s : State) (number : ℕ) → Answer → Type 0
 Exact s number a =
     a .number ≡ 0
     → HasValue (a .reading .position) false (namedCarrier s number .position) 2048 × HasValue (a .reading .speed) false (namedCarrier s number .speed) 128

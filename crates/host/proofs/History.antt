@@ -1,83 +1,65 @@
--- The theorem over histories, of the functions that a host calls: each is a call of the lane's history by its own contract, but for a cycle
--- whose wishes cannot be made, which leaves the lane as it was and is no call of the lane.
-use mathlib.Core.Path.{_≡_, sym, _∙_, subst}
-use mathlib.Core.List.{List, [], _∷_}
+-- The theorem over histories, of the functions that a host calls, text steps among them.
+use mathlib.Core.Path.{_≡_, refl, sym, _∙_, subst}
+use mathlib.Core.Bool.{Bool, true, false, cond}
+use mathlib.Core.List.{List, [], _∷_, _++_}
 use Prim.Native.Nat.{ℕ}
-use contract.Lifetimes.{Lfts}
-use denote.Ref.{RefT, now, at-last}
-use Rattle.wish.specs.declared.Wish.{Wish}
+use borrow.Author.Tests.{eqb-true, eqb-false}
+use denote.Ref.{now}
+use lib.Dec.{eqb}
+use lib.ListN.{drop}
 use Rattle.lane.specs.declared.Cycled.{Cycled}
-use Rattle.lane.specs.declared.Entered.{Entered}
-use Rattle.lane.specs.declared.Listed.{Listed}
-use Rattle.lane.specs.declared.ReadOut.{ReadOut}
-use Rattle.lane.specs.Layout.{Words, stateOf}
+use Rattle.lane.specs.Layout.{Words, stateOf, emptyWords}
 use Rattle.lane.specs.Call.{Call, start-call, enter-call, leave-call, cycle-call, read-call, text-call, Answer, bare, entered, cycled, readOut, listed, Gives}
-use Rattle.lane.specs.Given.{wishesNo, wishesGiven}
+use Rattle.lane.specs.Given.{wishesNo, wishesGiven, GivesWith}
 use Rattle.lane.proofs.Laws.{wishes-enough}
 use Rattle.history.specs.Book.{begun}
 use Rattle.history.specs.Claims.{kindOf}
-use Rattle.history.specs.History.{Event, OfLane, OfBoth, Wished, Chain, chain-end, chain-next, Throughout}
+use Rattle.history.specs.History.{Event, Wished, Chain, chain-end, chain-next, Throughout}
 use Rattle.history.proofs.History.{given-of, read-of, chain-history}
-use Rattle.host.proofs.rondavitse_start.Reads as start-reads
-use Rattle.host.proofs.rondavitse_enter.Reads as enter-reads
-use Rattle.host.proofs.rondavitse_leave.Reads as leave-reads
-use Rattle.host.proofs.rondavitse_cycle.Reads as cycle-reads
-use Rattle.host.proofs.rondavitse_read.Reads as read-reads
-use Rattle.host.proofs.rondavitse_lane_text.Reads as text-reads
+use Rattle.console.proofs.Calls.{step-chain}
+use Rattle.host.proofs.Calls.{HostCall, starts, enters, leaves, cycles, reads, lists, steps, made, Cycles, HostDid, HostRan, nothing-yet, call, Emptied}
 
--- what the contract of `rondavitse_cycle` says of a lane and two arrays of numbers behind references
-pub record Cycles (l : Words) (count : ℕ) (a : Answer) (m : Words) : Type 0 where
-  pub κs : Lfts 3
-  pub lane : RefT Words
-  pub sorts : RefT (List ℕ)
-  pub values : RefT (List ℕ)
-  pub before : now lane ≡ l
-  pub r : Cycled
-  pub answer : a ≡ cycled r
-  pub says : cycle-reads.Learnt κs (lane, (count, (sorts, (values, tt)))) r (at-last lane m, (count, (sorts, (values, tt))))
+-- a call of the lane before a list of calls
+one-made : {x : Call} {l m d : Words} {a : Answer} {es fs : List Event} → es ≡ made x a m → Gives x l a m → Wished (kindOf x) → Chain m fs d
+    → Chain l (es ++ fs) d
+one-made {x} {l} {m} {d} {a} {fs = fs} e g w c = rw e (chain-next {e = record { call = x; answer = a; left = m }} g w c)
 
--- what the contract of the exported function says
-abbrev pub HostDid : Call → Words → Answer → Words → Type 0
-HostDid (start-call road first) l a m =
-    OfLane l λ κs lane. (no : ℕ) × (a ≡ bare no []) × start-reads.Learnt κs (lane, (road, (first, tt))) no (at-last lane m, (road, (first, tt)))
-HostDid (enter-call c) l a m =
-    OfLane l λ κs lane. (r : Entered) × (a ≡ entered r) × enter-reads.Learnt κs (lane, (c, tt)) r (at-last lane m, (c, tt))
-HostDid (leave-call number) l a m =
-    OfLane l λ κs lane. (no : ℕ) × (a ≡ bare no []) × leave-reads.Learnt κs (lane, (number, tt)) no (at-last lane m, (number, tt))
-HostDid (cycle-call count wishes) l a m =
-    (d : Cycles l count a m) × (wishes ≡ wishesGiven count (now (d .sorts)) (now (d .values))) × (wishesNo count (now (d .sorts)) (now (d .values)) ≡ 0)
-HostDid (read-call number) l a m =
-    (m ≡ l) × OfLane l (λ κs lane. (r : ReadOut) × (a ≡ readOut r) × read-reads.Learnt κs (lane, (number, tt)) r (lane, (number, tt)))
-HostDid (text-call buffer) l a m =
-    (m ≡ l)
-    × OfBoth l buffer (λ κs lane out. (r : Listed) × (a ≡ listed r (a .bytes)) × text-reads.Learnt κs (lane, (out, tt)) r (lane, (at-last out (a .bytes), tt)))
+-- a cycle by its wishes: those that cannot be made are no call
+one-cycle : (count : ℕ) (sorts values : List ℕ) {l m d : Words} {r : Cycled} {es fs : List Event}
+    → es ≡ cond (eqb (wishesNo count sorts values) 0) (made (cycle-call count (wishesGiven count sorts values)) (cycled r) m) []
+    → Cycles l count sorts values r m → Chain m fs d → Chain l (es ++ fs) d
+one-cycle count sorts values {l} {m} {d} {r} {es} {fs} e c k = by-test (eqb (wishesNo count sorts values) 0) refl e
+  where
+    told : GivesWith (now (c .lane)) count sorts values (cycled r) m
+    told = rw (c .sorts-are, c .values-are) at (c .says)
 
--- a list of exported calls, each on the lane that the one before left and answered as its contract says, and the calls of the lane that
--- they are
-pub data HostRan : Words → List Event → Words → Type 0 where
-  nothing-yet : {l : Words} → HostRan l [] l
-  call : {l d : Words} {e : Event} {es : List Event} → HostDid (e .call) l (e .answer) (e .left) → HostRan (e .left) es d → HostRan l (e ∷ es) d
-  unmade : {l m d : Words} {es : List Event} (count : ℕ) (a : Answer) (c : Cycles l count a m) → ¬ (wishesNo count (now (c .sorts)) (now (c .values)) ≡ 0)
-      → HostRan m es d → HostRan l es d
+    by-test : (t : Bool) → eqb (wishesNo count sorts values) 0 ≡ t
+        → es ≡ cond t (made (cycle-call count (wishesGiven count sorts values)) (cycled r) m) [] → Chain l (es ++ fs) d
+    by-test true p e =
+        one-made e (given-of (c .before) refl (told .made (eqb-true _ 0 p))) (λ h. wishes-enough count sorts values (eqb-true _ 0 p)) k
+    by-test false p e = rw e (subst (λ (n : Words). Chain n fs d) (told .unmade (eqb-false _ 0 p) .1 ∙ c .before) k)
 
-gives : (x : Call) (l : Words) (a : Answer) (m : Words) → HostDid x l a m → Gives x l a m × Wished (kindOf x)
-gives (start-call road first) l a m d = (given-of (d .before) (d .says .1) (d .says .2), tt)
-gives (enter-call c) l a m d = (given-of (d .before) (d .says .1) (d .says .2), tt)
-gives (leave-call number) l a m d = (given-of (d .before) (d .says .1) (d .says .2), tt)
-gives (cycle-call count wishes) l a m (d, same, made) = (
-  given-of (d .before) (d .answer) (rw same (d .says .made made)),
-  λ h. rw same (wishes-enough count (now (d .sorts)) (now (d .values)) made),
-)
-gives (read-call number) l a m d = (read-of (d .0) (d .1 .before) (d .1 .says .1) (d .1 .says .2 .0), tt)
-gives (text-call buffer) l a m d =
-    let g = d .1 .says .2 in
-    (subst (λ (b : List ℕ). Gives (text-call b) l a m) (d .1 .lent) (read-of (d .0) (d .1 .before) (d .1 .says .1) g), tt)
+one-call : (x : HostCall) {l m d : Words} (es : List Event) {fs : List Event} → HostDid x l es m → Chain m fs d → Chain l (es ++ fs) d
+one-call (starts road first) es h c = one-made (h .says .1) (given-of (h .before) refl (h .says .2)) tt c
+one-call (enters c) es h k = one-made (h .says .1) (given-of (h .before) refl (h .says .2)) tt k
+one-call (leaves number) es h c = one-made (h .says .1) (given-of (h .before) refl (h .says .2)) tt c
+one-call (cycles count sorts values) es h c = one-cycle count sorts values (h .1) (h .2) c
+one-call (reads number) es h c = one-made (h .1 .says .1) (read-of (h .0) (h .1 .before) refl (h .1 .says .2 .0)) tt c
+one-call (lists buffer) es h c =
+    let g = subst (λ (b : List ℕ). Gives (text-call b) (now (h .1 .lane)) (listed (h .1 .says .0) (h .1 .says .1)) (now (h .1 .lane))) (h .1 .lent) (h .1 .says .3) in
+    one-made (h .1 .says .2) (read-of (h .0) (h .1 .before) refl g) tt c
+one-call (steps input at buffer) {l} {m} {d} es {fs} h c =
+    let g = rw (h .1 .before, h .1 .text-is, h .1 .lent) at (h .1 .says) in
+    rw (h .0) (step-chain l m d (drop at input) fs g c)
 
-is-chain : {l d : Words} {es : List Event} → HostRan l es d → Chain l es d
+is-chain : {l d : Words} {xs : List HostCall} {es : List Event} → HostRan l xs es d → Chain l es d
 is-chain nothing-yet = chain-end
-is-chain {l} (call {e = e} h r) = let g = gives (e .call) l (e .answer) (e .left) h in chain-next (g .0) (g .1) (is-chain r)
-is-chain {d = d} (unmade {es = es} count a c n r) = subst (λ (k : Words). Chain k es d) (c .says .unmade n .1 ∙ c .before) (is-chain r)
+is-chain (call {x = x} es h r) = one-call x es h (is-chain r)
 
 -- demand 3 for every list of exported calls from an empty lane
-pub host-history : (l : Words) → stateOf l .count ≡ 0 → (es : List Event) (d : Words) → HostRan l es d → Throughout (begun l) es
-host-history l e es d r = chain-history l e es d (is-chain r)
+pub host-history : (l : Words) → stateOf l .count ≡ 0 → (xs : List HostCall) (es : List Event) (d : Words) → HostRan l xs es d → Throughout (begun l) es
+host-history l e xs es d r = chain-history l e es d (is-chain r)
+
+-- and from the lane that `rondavitse_empty` gives
+pub host-history-from-empty : (l : Words) → Emptied l → (xs : List HostCall) (es : List Event) (d : Words) → HostRan l xs es d → Throughout (begun emptyWords) es
+host-history-from-empty l e xs es d r = subst (λ (k : Words). Throughout (begun k) es) (e .says) (host-history l (rw (e .says) refl) xs es d r)

@@ -1,1 +1,4 @@
+-- `Calls` is what a host calls, `History` the theorem over every list of such calls, `Answered` that there is one of each.
+mod Calls
 mod History
+mod Answered

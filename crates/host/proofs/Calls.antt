@@ -1,0 +1,101 @@
+-- The calls that a host makes, and what the contract of each exported function says: each is a call of the lane, but for a cycle whose wishes
+-- cannot be made and a step that runs no block, which leave the lane as it was and are none.
+use mathlib.Core.Path.{_≡_}
+use mathlib.Core.Bool.{cond}
+use mathlib.Core.List.{List, [], _∷_, _++_}
+use Prim.Native.Nat.{ℕ}
+use contract.Lifetimes.{Lfts}
+use denote.Ref.{RefT, now, at-last}
+use lib.Dec.{eqb}
+use lib.ListN.{drop}
+use Rattle.lane.specs.declared.Carrier.{Carrier}
+use Rattle.lane.specs.declared.Cycled.{Cycled}
+use Rattle.lane.specs.declared.Entered.{Entered}
+use Rattle.lane.specs.declared.Listed.{Listed}
+use Rattle.lane.specs.declared.ReadOut.{ReadOut}
+use Rattle.lane.specs.declared.Road.{Road}
+use Rattle.lane.specs.Layout.{Words}
+use Rattle.lane.specs.Call.{Call, start-call, enter-call, leave-call, cycle-call, read-call, text-call, Answer, bare, entered, cycled, readOut, listed}
+use Rattle.lane.specs.Given.{wishesNo, wishesGiven}
+use Rattle.console.specs.declared.Stepped.{Stepped}
+use Rattle.console.specs.History.{blockRun, eventsOf}
+use Rattle.history.specs.History.{Event, OfLane, OfBoth}
+use Rattle.host.proofs.rondavitse_empty.Reads as empty-reads
+use Rattle.host.proofs.rondavitse_start.Reads as start-reads
+use Rattle.host.proofs.rondavitse_enter.Reads as enter-reads
+use Rattle.host.proofs.rondavitse_leave.Reads as leave-reads
+use Rattle.host.proofs.rondavitse_cycle.Reads as cycle-reads
+use Rattle.host.proofs.rondavitse_read.Reads as read-reads
+use Rattle.host.proofs.rondavitse_lane_text.Reads as text-reads
+use Rattle.host.proofs.rondavitse_step.Reads as step-reads
+
+-- an exported call with its arguments, but for the lane: numbers, and the bytes of what is lent
+pub data HostCall : Type 0 where
+  starts : Road → (first : ℕ) → HostCall
+  enters : Carrier → HostCall
+  leaves : (number : ℕ) → HostCall
+  cycles : (count : ℕ) → (sorts values : List ℕ) → HostCall
+  reads : (number : ℕ) → HostCall
+  lists : (buffer : List ℕ) → HostCall
+  steps : (input : List ℕ) → (at : ℕ) → (buffer : List ℕ) → HostCall
+
+-- the lane's call that it is
+abbrev pub made : Call → Answer → (left : Words) → List Event
+made x a left = record { call = x; answer = a; left = left } ∷ []
+
+-- what the contract of `rondavitse_cycle` says of a lane and two arrays of numbers behind references
+pub record Cycles (l : Words) (count : ℕ) (sorts values : List ℕ) (r : Cycled) (m : Words) : Type 0 where
+  pub κs : Lfts 3
+  pub lane : RefT Words
+  pub of-sorts : RefT (List ℕ)
+  pub of-values : RefT (List ℕ)
+  pub before : now lane ≡ l
+  pub sorts-are : now of-sorts ≡ sorts
+  pub values-are : now of-values ≡ values
+  pub says : cycle-reads.Learnt κs (lane, (count, (of-sorts, (of-values, tt)))) r (at-last lane m, (count, (of-sorts, (of-values, tt))))
+
+-- what the contract of `rondavitse_step` says of a lane, an input and a buffer behind references
+pub record Steps (l : Words) (input : List ℕ) (at : ℕ) (buffer : List ℕ) (m : Words) : Type 0 where
+  pub κs : Lfts 3
+  pub lane : RefT Words
+  pub text : RefT (List ℕ)
+  pub out : RefT (List ℕ)
+  pub before : now lane ≡ l
+  pub text-is : now text ≡ input
+  pub lent : now out ≡ buffer
+  pub r : Stepped
+  pub left : List ℕ
+  pub says : step-reads.Learnt κs (lane, (text, (at, (out, tt)))) r (at-last lane m, (text, (at, (at-last out left, tt))))
+
+-- what the contract of the exported function says, and the calls of the lane that this is
+abbrev pub HostDid : HostCall → Words → List Event → Words → Type 0
+HostDid (starts road first) l es m =
+    OfLane l λ κs lane. (no : ℕ) × (es ≡ made (start-call road first) (bare no []) m) × start-reads.Learnt κs (lane, (road, (first, tt))) no (at-last lane m, (road, (first, tt)))
+HostDid (enters c) l es m =
+    OfLane l λ κs lane. (r : Entered) × (es ≡ made (enter-call c) (entered r) m) × enter-reads.Learnt κs (lane, (c, tt)) r (at-last lane m, (c, tt))
+HostDid (leaves number) l es m =
+    OfLane l λ κs lane. (no : ℕ) × (es ≡ made (leave-call number) (bare no []) m) × leave-reads.Learnt κs (lane, (number, tt)) no (at-last lane m, (number, tt))
+HostDid (cycles count sorts values) l es m =
+    (r : Cycled)
+    × (es ≡ cond (eqb (wishesNo count sorts values) 0) (made (cycle-call count (wishesGiven count sorts values)) (cycled r) m) [])
+    × Cycles l count sorts values r m
+HostDid (reads number) l es m =
+    (m ≡ l) × OfLane l (λ κs lane. (r : ReadOut) × (es ≡ made (read-call number) (readOut r) m) × read-reads.Learnt κs (lane, (number, tt)) r (lane, (number, tt)))
+HostDid (lists buffer) l es m =
+    (m ≡ l)
+    × OfBoth l buffer (λ κs lane out. (r : Listed) × (bytes : List ℕ) × (es ≡ made (text-call buffer) (listed r bytes) m)
+    × text-reads.Learnt κs (lane, (out, tt)) r (lane, (at-last out bytes, tt)))
+HostDid (steps input at buffer) l es m = (es ≡ eventsOf (blockRun buffer (drop at input)) l m) × Steps l input at buffer m
+
+-- a list of exported calls, each on the lane that the one before left and answered as its contract says, and the calls of the lane that
+-- they are
+pub data HostRan : Words → List HostCall → List Event → Words → Type 0 where
+  nothing-yet : {l : Words} → HostRan l [] [] l
+  call : {l m d : Words} {x : HostCall} {xs : List HostCall} (es : List Event) {fs : List Event} → HostDid x l es m → HostRan m xs fs d
+      → HostRan l (x ∷ xs) (es ++ fs) d
+
+-- what the contract of `rondavitse_empty` says of the lane with which a list begins
+pub record Emptied (l : Words) : Type 0 where
+  pub κs : Lfts 1
+  pub lane : RefT Words
+  pub says : empty-reads.Learnt κs (lane, tt) tt (at-last lane l, tt)
