@@ -1,5 +1,5 @@
--- What the crates above use of trimming and of readings, with nothing to unfold. Assumes nothing.
-use mathlib.Core.Path.{_≡_, ap, _∙_}
+-- What the crates above use of units, of trimming and of readings, with nothing to unfold. Assumes nothing.
+use mathlib.Core.Path.{_≡_, refl, ap, _∙_}
 use mathlib.Core.Bool.{false}
 use Prim.Native.Nat.{ℕ, _+_, _-_, _^_, _≤_, _<_, min}
 use native.Mathlib.Nat.{min-le-right}
@@ -8,10 +8,26 @@ use lib.Dec.{lit≤}
 use lib.IntN.{ℤ, pos, negℤ, _+ℤ_, _-ℤ_}
 use lib.Signed.{_≤ℤ_}
 use lib.Ieee.Exact.{HasValue}
+use Rattle.wish.specs.Units.{unitsOf}
 use Rattle.wish.specs.Trimming.{smallerOf, trimmedInto, trimmedTo}
 use Rattle.wish.specs.Reading.{readingOf}
+use Rattle.wish.specs.declared.Converted.the-variants.{Units}
+use Rattle.wish.specs.declared.Wish
+use Rattle.wish.specs.declared.Wish.the-variants.{Hold}
 use Rattle.wish.proofs.Trimming.{smaller-pos, smaller-left, smaller-right, not-above-right, below-both, neg-le-pos, not-below-low, inside-kept, above-high, below-low, ends-crossed, pos-minus, between, sum-between}
 use Rattle.wish.proofs.Quotients.{doubleOf-exact}
+
+-- ---- "whole units" and "hold (0 units)"; of the two sorts of float `Floor` has the laws
+
+pub whole-units : (u : ℤ) (v : ℕ) → unitsOf (Wish.the-variants.Units u) v ≡ Units u
+unfolding unitsOf
+whole-units u v = refl
+
+pub hold-units : (v : ℕ) → unitsOf Hold v ≡ Units (pos 0)
+unfolding unitsOf
+hold-units v = refl
+
+-- ---- trimming
 
 -- The speed v, with the units w trimmed for it and added.
 pub record NewSpeed (w : ℤ) (v hardest most limit : ℕ) : Type 0 where
@@ -66,6 +82,8 @@ module _ (w : ℤ) (v hardest most limit : ℕ) where
         let h = min most (limit - v) in
         let s = sum-between v k h (min-le-right hardest v) (between k h w) in
         record { speed = s .value; is = ap (λ (t : ℤ). pos v +ℤ t) ends ∙ s .is; rises-at-most = omega arith; within-limit = omega arith }
+
+-- ---- readings
 
 -- both doubles of a reading are exact
 pub reading-exact : (p v : ℕ) → p < 2 ^ 53 → v < 2 ^ 53 → HasValue (readingOf p v .position) false p 2048 × HasValue (readingOf p v .speed) false v 128
