@@ -3,18 +3,18 @@
 use mathlib.Core.Path.{_≡_, refl, sym, ap, _∙_, subst}
 use mathlib.Core.Bool.{true, _&&_, and-eq-true-iff}
 use Prim.Native.Nat.{ℕ, zero, suc, _+_, _-_, _*_, _/_, _%_, _^_, _≤_, _<_, min}
-use native.Mathlib.Nat.{add-zero}
+use native.Mathlib.Nat.{add-zero, le-refl, sub-self}
 use native.Mathlib.Omega.{arith}
 use borrow.Author.Tests.{lt-ltb, ltb-true}
 use lib.Dec.{ltb}
-use lib.IntN.{ℤ, pos, negℤ, _+ℤ_, _-ℤ_, _*ℤ_, +ℤ-assoc, +ℤ-comm}
+use lib.IntN.{ℤ, pos, negℤ, _+ℤ_, _-ℤ_, _*ℤ_, +ℤ-assoc, +ℤ-comm, *ℤ-zero}
 use lib.Signed.{_≤ℤ_, _<ℤ_, ≤ℤ-refl}
 use Rattle.headway.specs.Motion.{speedAfter, positionAfter, positionAt}
 use Rattle.headway.specs.Stopping.{braking, slowed, gained, stoppingDistance, safeBehind}
 use Rattle.headway.specs.Wishes.{restsBehind}
 use Rattle.headway.specs.Totals.{restOf, safeOf, passesOf}
-use Rattle.headway.proofs.Integers.{pos-minus, lt-pos, neg-le}
-use Rattle.headway.proofs.Motion.{speed-is, position-is, trajectory-is, from-to, braked, driven, slower}
+use Rattle.headway.proofs.Integers.{pos-minus, reached, lt-pos, neg-le}
+use Rattle.headway.proofs.Motion.{weightedAt, speed-is, position-sum-is, position-is, trajectory-is, from-to, braked, driven, slower}
 use Rattle.headway.proofs.Signed.{is-speed}
 use Rattle.headway.proofs.Totals.{two-rates, rest-is}
 use Rattle.headway.proofs.Stopping as S
@@ -30,6 +30,42 @@ difference = pos-minus
 pub braking-is : (c v : ℕ) → braking c v ≡ negℤ (pos (min c v))
 unfolding braking
 braking-is c v = refl
+
+-- the speed to which an acceleration of at least −v leads
+leads : (v : ℕ) (a : ℤ) → negℤ (pos v) ≤ℤ a → (u : ℕ) × (pos v +ℤ a ≡ pos u)
+leads v a h = let r = reached v v a (le-refl v) h in (r .0, r .1)
+
+-- "One cycle with a: the speed becomes v + a, the position p + 2v + a", for every acceleration of at least −v: neither sum is negative, and no
+-- absolute value folds it
+pub speed-sum : (v : ℕ) (a : ℤ) → negℤ (pos v) ≤ℤ a → pos (speedAfter v a) ≡ pos v +ℤ a
+speed-sum v a h = let r = leads v a h in ap pos (speed-is v a (r .0) (r .1)) ∙ sym (r .1)
+
+pub position-sum : (p v : ℕ) (a : ℤ) → negℤ (pos v) ≤ℤ a → pos (positionAfter p v a) ≡ pos p +ℤ pos (2 * v) +ℤ a
+position-sum p v a h =
+    let r = leads v a h in
+    ap pos (position-is v a (r .0) (r .1) p) ∙ sym (position-sum-is v a (r .0) (r .1) p)
+
+-- "After the fraction k/n of it (n at least 1, k from 0 to n), n² times the position is n²p + 2vkn + ak²."
+pub fraction-form : (n k p v : ℕ) (a : ℤ) → positionAt n k p v a ≡ pos (n * n * p) +ℤ pos (2 * v * k * n) +ℤ a *ℤ pos (k * k)
+unfolding positionAt
+fraction-form n k p v a = refl
+
+-- so at 0/n the cycle has not begun
+pub fraction-at-start : (n p v : ℕ) (a : ℤ) → positionAt n 0 p v a ≡ pos (n * n * p)
+unfolding positionAt
+fraction-at-start n p v a = ap (λ (z : ℤ). pos (n * n * p + 2 * v * 0 * n) +ℤ z) (*ℤ-zero a) ∙ ap pos (omega arith)
+
+-- at n/n it has ended,
+pub fraction-at-end : (n p v : ℕ) (a : ℤ) → negℤ (pos v) ≤ℤ a → positionAt n n p v a ≡ pos (n * n * positionAfter p v a)
+fraction-at-end n p v a h =
+    let r = leads v a h in
+    rw (position-is v a (r .0) (r .1) p) (trajectory-is v a (r .0) (r .1) n n p (le-refl n) ∙ ap pos (rw (sub-self n) (omega arith)))
+
+-- and between them no position is negative
+pub fraction-not-negative : (n k p v : ℕ) (a : ℤ) → k ≤ n → negℤ (pos v) ≤ℤ a → (x : ℕ) × (positionAt n k p v a ≡ pos x)
+fraction-not-negative n k p v a hk h =
+    let r = leads v a h in
+    (weightedAt (n - k) k p v (r .0), trajectory-is v a (r .0) (r .1) n k p hk)
 
 -- a cycle that leads to the speed u gains v + u
 pub speed-after : (v : ℕ) (a : ℤ) (u : ℕ) → pos v +ℤ a ≡ pos u → speedAfter v a ≡ u
@@ -51,9 +87,8 @@ unfolding positionAt
 fraction-moved n k p m v a =
     let rest = a *ℤ pos (k * k) in
     ap (λ (x : ℕ). pos x +ℤ rest) (omega arith)
-    ∙ +ℤ-assoc (pos (n * n * p + 2 * v * k * n)) (pos (n * n * m)) rest
-    ∙ ap (λ (z : ℤ). pos (n * n * p + 2 * v * k * n) +ℤ z) (+ℤ-comm (pos (n * n * m)) rest)
-    ∙ sym (+ℤ-assoc (pos (n * n * p + 2 * v * k * n)) rest (pos (n * n * m)))
+    ∙ +ℤ-assoc (pos (n * n * m)) (pos (n * n * p + 2 * v * k * n)) rest
+    ∙ +ℤ-comm (pos (n * n * m)) (positionAt n k p v a)
 
 pub braking-speed : (c v : ℕ) → pos v +ℤ braking c v ≡ pos (v - c)
 braking-speed = braked
@@ -166,14 +201,12 @@ module _ (b B p v : ℕ) (w : ℤ) (pL vL : ℕ) (a : ℤ) (hb : 1 ≤ b) (hB : 
       let d = driven B v w lo in
       let e = driven B vL a loL in
       let t = tested b B p v w pL vL (d .0) (d .1) test in
-      let s : k + (n - k) ≡ n = omega arith in
       let below = safe-says b B p v pL vL safe .below in
-      subst (λ (m : ℕ). positionAt m k p v w <ℤ positionAt m k pL vL a) s
-      (rw (trajectory-is v w (d .0) (d .1) k (n - k) p, trajectory-is vL a (e .0) (e .1) k (n - k) pL)
+      rw (trajectory-is v w (d .0) (d .1) n k p hk, trajectory-is vL a (e .0) (e .1) n k pL hk)
       (lt-pos
       (weighted (n - k) k p (p + v) (p + v + d .0) pL (pL + vL) (pL + vL + e .0) (omega arith) below
       (middle-apart b B p v (d .0) pL vL (e .0) hb hB below t (d .2) (e .2))
-      (ends-apart b B p v (d .0) pL vL (e .0) hb hB below t (d .2) (e .2)))))
+      (ends-apart b B p v (d .0) pL vL (e .0) hb hB below t (d .2) (e .2))))
 
 -- ---- what safe behind is for: where both brake, the follower at b and the one ahead at B, they never touch, at no fraction of any cycle
 

@@ -1,5 +1,6 @@
 -- Document 01, "Units": how a carrier moves within one cycle. Positions and speeds are natural numbers and accelerations
--- integers; an acceleration is at least −v, so that the sums below are not negative and `natAbs` is the number itself.
+-- integers; an acceleration is at least −v, so that the sums below are not negative and `natAbs` is the number itself
+-- (laws `speed-sum`, `position-sum`, `fraction-not-negative`).
 use Prim.Native.Nat.{ℕ, _*_}
 use lib.IntN.{ℤ, pos, natAbs, _+ℤ_, _*ℤ_}
 

@@ -1,93 +1,25 @@
--- Document 01, "Edges (M: proved)": all its marked cases in one table, computed from the definitions of every layer. This file alone
--- opens the definitions of other crates.
+-- The table of the marked cases, computed as a whole from the definitions of every layer: this file alone opens those of other crates. Each
+-- row follows by name, so that none can be left out of the table.
 use mathlib.Core.Path.{_≡_, refl, sym, ap, _∙_}
-use mathlib.Core.Bool.{Bool, true, false}
+use mathlib.Core.Bool.{true, false}
 use mathlib.Core.List.{List, [], _∷_, map}
 use Prim.Native.Nat.{ℕ}
-use lib.IntN.{pos}
-use lib.Ieee.{binary32, ofBits}
-use lib.ListN.{getD, List·getD-map}
+use lib.Ieee.{ofBits}
+use lib.ListN.{drop, getD, List·getD-map}
 use Rattle.headway.specs.Motion.{speedAfter, positionAfter}
 use Rattle.headway.specs.Stopping.{braking, gained, stoppingDistance, safeBehind}
 use Rattle.headway.specs.Wishes.{restsBehind}
 use Rattle.wish.specs.Units.{unitsOf}
 use Rattle.wish.specs.Trimming.{trimmedTo}
-use Rattle.wish.specs.declared.Converted.{Converted}
-use Rattle.wish.specs.declared.Wish.the-variants.{Units, Acceleration, Hold}
-use Rattle.wish.proofs.Cases as Accelerations
-use Rattle.wish.proofs.Cases.{accelerationCases}
+use Rattle.wish.specs.Cases.{accelerationCases}
 use Rattle.lane.specs.declared.Carrier.{Carrier}
 use Rattle.lane.specs.Surface.{houseRows, rowOf}
-use Rattle.lane.specs.State.{State}
-use Rattle.lane.specs.Layout.{stateOf, emptyWords}
 use Rattle.lane.specs.Safety.{safeWith, safeFrom, laneSafe, anyOf, firstPlace, repeats}
 use Rattle.lane.specs.Rules.{roadNo, unlawful, pastEnd, faulty, broken, newcomerNo}
 use Rattle.lane.specs.Wishes.{wishedUnits, anyOutside, trimmed, stands, drive, drives, moved, allMoved, wordOf, remaining}
 use Rattle.lane.specs.Calls.{walk, gapNo, placeNo, enterNo, enteredState, cycleDrives, readyNo, cycleNo, cycleWord, cycleCarriers, cycledState}
-use Rattle.lane.specs.Call.{Call, start-call, enter-call, cycle-call, callAnswer, callState}
-
--- what a case gives
-pub data Value : Type 0 where
-  distance : ℕ → Value
-  safe : Bool → Value
-  -- a cycle's word, and the carriers after it
-  cycled : ℕ → List Carrier → Value
-  units : Converted → Value
-
-pub data Case : Type 0 where
-  -- S(c, v)
-  stop : (c v : ℕ) → Case
-  -- rates b and B, both speeds v, and the gap
-  gap : (b B v apart : ℕ) → Case
-  -- the example's cycle, with carrier 7 standing at a position
-  example : (position : ℕ) → Case
-  -- an acceleration's bits
-  acceleration : (bits : ℕ) → Case
-
-pub record Entry : Type 0 where
-  pub shown : Case
-  pub gives : Value
-
-abbrev pub entry : Case → Value → Entry
-entry c v = record { shown = c; gives = v }
-
-abbrev carrier : (number position speed : ℕ) → Carrier
-carrier number position speed = record { number = number; position = position; speed = speed }
-
--- "start 0, 10000, 1000, 0; enter 7 at .. speed 0; enter 8 at 700 speed 64", from a lane of no words but 0
-abbrev example-lane : ℕ → State
-example-lane position =
-    callState (enter-call (carrier 8 700 64))
-    (callState (enter-call (carrier 7 position 0))
-    (callState (start-call (record { surface = 0; end = 10000; limit = 1000 }) 0) (stateOf emptyWords)))
-
--- "cycle of 2 with `hold` and `units:32`"
-abbrev example-cycle : Call
-example-cycle = cycle-call 2 (Hold ∷ Units (pos 32) ∷ [])
-
-pub value : Case → Value
-value (stop c v) = distance (stoppingDistance c v)
-value (gap b B v apart) = safe (safeBehind b B 0 v apart v)
-value (example position) =
-    cycled (callAnswer example-cycle (example-lane position) .word) (callState example-cycle (example-lane position) .carriers)
-value (acceleration bits) = units (unitsOf (Acceleration (ofBits binary32 bits)) 0)
-
-abbrev pub first : Entry
-first = entry (stop 3 7) (distance 17)
-
-pub table : List Entry
-table =
-    first
-    ∷ entry (stop 5 7) (distance 11)
-    ∷ entry (stop 255 100) (distance 100)
-    ∷ entry (stop 1 8192) (distance 67108864)
-    ∷ entry (stop 64 96) (distance 160)
-    ∷ entry (stop 6 0) (distance 0)
-    ∷ entry (gap 3 5 7 6) (safe false)
-    ∷ entry (gap 3 5 7 7) (safe true)
-    ∷ entry (example 1020) (cycled 2 (carrier 7 1020 0 ∷ carrier 8 764 0 ∷ []))
-    ∷ entry (example 1021) (cycled 0 (carrier 7 1021 0 ∷ carrier 8 860 96 ∷ []))
-    ∷ map (λ (c : Accelerations.Case). entry (acceleration (c .bits)) (units (c .gives))) accelerationCases
+use Rattle.lane.specs.Call.{callAnswer, callState}
+use Rattle.lane.specs.Cases.{Value, distance, Entry, carrier, exampleLane, exampleCycle, value, first, accelerationEntry, table}
 
 -- the whole table, by one computation
 computed : map (λ (e : Entry). value (e .shown)) table ≡ map (λ (e : Entry). e .gives) table
@@ -101,3 +33,61 @@ marked-cases i =
     sym (List·getD-map (λ (e : Entry). value (e .shown)) table i first)
     ∙ ap (λ (vs : List Value). getD vs i (distance 17)) computed
     ∙ List·getD-map (λ (e : Entry). e .gives) table i first
+
+-- ---- row by row
+
+pub stop-3-7 : stoppingDistance 3 7 ≡ 17
+unfolding value table
+stop-3-7 = cc (marked-cases 0)
+
+pub stop-5-7 : stoppingDistance 5 7 ≡ 11
+unfolding value table
+stop-5-7 = cc (marked-cases 1)
+
+pub stop-255-100 : stoppingDistance 255 100 ≡ 100
+unfolding value table
+stop-255-100 = cc (marked-cases 2)
+
+pub stop-1-8192 : stoppingDistance 1 8192 ≡ 67108864
+unfolding value table
+stop-1-8192 = cc (marked-cases 3)
+
+pub stop-64-96 : stoppingDistance 64 96 ≡ 160
+unfolding value table
+stop-64-96 = cc (marked-cases 4)
+
+pub stop-6-0 : stoppingDistance 6 0 ≡ 0
+unfolding value table
+stop-6-0 = cc (marked-cases 5)
+
+-- b 3, B 5, both speeds 7
+pub gap-6-unsafe : safeBehind 3 5 0 7 6 7 ≡ false
+unfolding value table
+gap-6-unsafe = cc (marked-cases 6)
+
+pub gap-7-safe : safeBehind 3 5 0 7 7 7 ≡ true
+unfolding value table
+gap-7-safe = cc (marked-cases 7)
+
+-- the example's cycle, with carrier 7 standing at 1020: carrier 8's wish is replaced, and it comes to rest
+pub at-1020-replaced : callAnswer exampleCycle (exampleLane 1020) .word ≡ 2
+unfolding value table
+at-1020-replaced = cc (marked-cases 8)
+
+pub at-1020-carriers : callState exampleCycle (exampleLane 1020) .carriers ≡ carrier 7 1020 0 ∷ carrier 8 764 0 ∷ []
+unfolding value table
+at-1020-carriers = cc (marked-cases 8)
+
+-- at 1021 it stands
+pub at-1021-stands : callAnswer exampleCycle (exampleLane 1021) .word ≡ 0
+unfolding value table
+at-1021-stands = cc (marked-cases 9)
+
+pub at-1021-carriers : callState exampleCycle (exampleLane 1021) .carriers ≡ carrier 7 1021 0 ∷ carrier 8 860 96 ∷ []
+unfolding value table
+at-1021-carriers = cc (marked-cases 9)
+
+-- and last all the accelerations, whose rows wish holds by name
+pub accelerations-last : drop 10 table ≡ map accelerationEntry accelerationCases
+unfolding table
+accelerations-last = refl

@@ -9,3 +9,4 @@ pub mod Calls
 pub mod Listing
 pub mod Call
 pub mod Given
+pub mod Cases

@@ -1,30 +1,45 @@
--- Document 01, Edges: "Accelerations, in units before trimming". One table of bits with what they give, proved as a whole from the definitions.
+-- The marked accelerations are what the definitions give, proved as one table; each of its rows again by name, so that none can be left out.
 use mathlib.Core.Path.{_≡_, refl}
-use mathlib.Core.List.{List, [], _∷_, map}
+use mathlib.Core.List.{map}
 use Prim.Native.Nat.{ℕ}
-use lib.IntN.{pos, negsuc}
+use lib.IntN.{pos, negℤ}
 use lib.Ieee.{binary32, ofBits}
 use Rattle.wish.specs.Units.{unitsOf}
+use Rattle.wish.specs.Cases.{Case, accelerationCases}
 use Rattle.wish.specs.declared.Converted.{Converted}
 use Rattle.wish.specs.declared.Converted.the-variants.{Units, Outside}
 use Rattle.wish.specs.declared.Wish.the-variants.{Acceleration}
 
-pub record Case : Type 0 where
-  pub bits : ℕ
-  pub gives : Converted
-
--- the last three are "41800000 accepted; 41800001 and 7FC00000 get 7"
-unfoldable pub accelerationCases : List Case
-accelerationCases =
-    record { bits = 0xBD00_0000; gives = Units (negsuc 0) }
-    ∷ record { bits = 0x3D00_0000; gives = Units (pos 0) }
-    ∷ record { bits = 0x8000_0001; gives = Units (negsuc 0) }
-    ∷ record { bits = 0x4180_0000; gives = Units (pos 256) }
-    ∷ record { bits = 0x4180_0001; gives = Outside }
-    ∷ record { bits = 0x7FC0_0000; gives = Outside }
-    ∷ []
-
 -- at whatever present speed
-pub acceleration-cases : (v : ℕ) → map (λ (c : Case). unitsOf (Acceleration (ofBits binary32 (c .bits))) v) accelerationCases ≡ map (λ (c : Case). c .gives) accelerationCases
-unfolding accelerationCases unitsOf ofBits
-acceleration-cases v = refl
+module _ (v : ℕ) where
+  -- the units of an acceleration, by its bits
+  abbrev pub unitsOfBits : ℕ → Converted
+  unitsOfBits bits = unitsOf (Acceleration (ofBits binary32 bits)) v
+
+  pub acceleration-cases : map (λ (c : Case). unitsOfBits (c .bits)) accelerationCases ≡ map (λ (c : Case). c .gives) accelerationCases
+  unfolding accelerationCases unitsOf ofBits
+  acceleration-cases = refl
+
+  pub acceleration-BD000000 : unitsOfBits 0xBD00_0000 ≡ Units (negℤ (pos 1))
+  unfolding accelerationCases
+  acceleration-BD000000 = cc acceleration-cases
+
+  pub acceleration-3D000000 : unitsOfBits 0x3D00_0000 ≡ Units (pos 0)
+  unfolding accelerationCases
+  acceleration-3D000000 = cc acceleration-cases
+
+  pub acceleration-80000001 : unitsOfBits 0x8000_0001 ≡ Units (negℤ (pos 1))
+  unfolding accelerationCases
+  acceleration-80000001 = cc acceleration-cases
+
+  pub acceleration-41800000-accepted : unitsOfBits 0x4180_0000 ≡ Units (pos 256)
+  unfolding accelerationCases
+  acceleration-41800000-accepted = cc acceleration-cases
+
+  pub acceleration-41800001-outside : unitsOfBits 0x4180_0001 ≡ Outside
+  unfolding accelerationCases
+  acceleration-41800001-outside = cc acceleration-cases
+
+  pub acceleration-7FC00000-outside : unitsOfBits 0x7FC0_0000 ≡ Outside
+  unfolding accelerationCases
+  acceleration-7FC00000-outside = cc acceleration-cases

@@ -11,8 +11,9 @@ use lib.Signed.{leZ, ltZ, _≤ℤ_, _<ℤ_, leZ-yes, ltZ-yes, ltZ-no, clashℤ}
 use lib.Ieee.{Float, fin, up, down}
 use lib.Ieee.Fits.{down-pos}
 use Rattle.wish.specs.Rounding.{signed, roundedSize, roundedTimes, Floor}
-use Rattle.wish.specs.Units.{liesWithin, unitsWithin, accelerationUnits, targetUnits}
+use Rattle.wish.specs.Units.{liesWithin, unitsWithin, accelerationUnits, targetUnits, unitsOf}
 use Rattle.wish.specs.declared.Converted.the-variants.{Units, Outside}
+use Rattle.wish.specs.declared.Wish.the-variants.{Acceleration, TargetSpeed}
 use Rattle.wish.proofs.Rounding.{ceil-ge, ceil-le}
 
 -- ---- of a fraction
@@ -120,21 +121,21 @@ answered lo hi x a b e = go (liesWithin lo hi x) e
     go true h = cc
     go false h = absurd (never h)
 
-module _ (s : Bool) (m : ℕ) (e : ℤ) (z : ℤ) where
+module _ (s : Bool) (m : ℕ) (e : ℤ) (z : ℤ) (v : ℕ) where
   rounded-floor : (k : ℕ) → Floor (roundedTimes k (fin s m e)) (signed s (m * up e * k)) (down e)
   unfolding roundedTimes
   rounded-floor k = floor s (m * up e * k) (down e) (down-pos e)
 
   -- "rounding down the exact value of 16 times it"
-  pub acceleration-floor : accelerationUnits (fin s m e) ≡ Units z → Floor z (signed s (m * up e * 16)) (down e)
-  unfolding accelerationUnits
+  pub acceleration-floor : unitsOf (Acceleration (fin s m e)) v ≡ Units z → Floor z (signed s (m * up e * 16)) (down e)
+  unfolding unitsOf accelerationUnits
   acceleration-floor h =
       subst (λ (x : ℤ). Floor x (signed s (m * up e * 16)) (down e)) (answered (fin true 1 (pos 4)) (fin false 1 (pos 4)) (fin s m e) (roundedTimes 16 (fin s m e)) z h)
       (rounded-floor 16)
 
   -- "or of 128 times it less the present speed"
-  pub target-floor : (v : ℕ) → targetUnits (fin s m e) v ≡ Units z → Floor z (signed s (m * up e * 128) -ℤ pos (v * down e)) (down e)
-  unfolding targetUnits
-  target-floor v h =
+  pub target-floor : unitsOf (TargetSpeed (fin s m e)) v ≡ Units z → Floor z (signed s (m * up e * 128) -ℤ pos (v * down e)) (down e)
+  unfolding unitsOf targetUnits
+  target-floor h =
       subst (λ (x : ℤ). Floor x (signed s (m * up e * 128) -ℤ pos (v * down e)) (down e)) (answered (fin false 0 (pos 0)) (fin false 1 (pos 6)) (fin s m e) (roundedTimes 128 (fin s m e) -ℤ pos v) z h)
       (less (roundedTimes 128 (fin s m e)) (signed s (m * up e * 128)) (down e) v (rounded-floor 128))

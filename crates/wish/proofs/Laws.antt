@@ -1,5 +1,5 @@
--- What the crates above use of trimming and of readings, with nothing to unfold. Assumes nothing.
-use mathlib.Core.Path.{_≡_, sym, ap, ap₂, _∙_, subst}
+-- What the crates above use of units, of trimming and of readings, with nothing to unfold. Assumes nothing.
+use mathlib.Core.Path.{_≡_, refl, ap, _∙_}
 use mathlib.Core.Bool.{false}
 use Prim.Native.Nat.{ℕ, _+_, _-_, _^_, _≤_, _<_, min}
 use native.Mathlib.Nat.{min-le-right}
@@ -8,10 +8,26 @@ use lib.Dec.{lit≤}
 use lib.IntN.{ℤ, pos, negℤ, _+ℤ_, _-ℤ_}
 use lib.Signed.{_≤ℤ_}
 use lib.Ieee.Exact.{HasValue}
+use Rattle.wish.specs.Units.{unitsOf}
 use Rattle.wish.specs.Trimming.{smallerOf, trimmedInto, trimmedTo}
 use Rattle.wish.specs.Reading.{readingOf}
-use Rattle.wish.proofs.Trimming.{smaller-pos, below-both, not-below-low, inside-kept, pos-minus, between, sum-between}
+use Rattle.wish.specs.declared.Converted.the-variants.{Units}
+use Rattle.wish.specs.declared.Wish
+use Rattle.wish.specs.declared.Wish.the-variants.{Hold}
+use Rattle.wish.proofs.Trimming.{smaller-pos, smaller-left, smaller-right, not-above-right, below-both, neg-le-pos, not-below-low, inside-kept, above-high, below-low, ends-crossed, pos-minus, between, sum-between}
 use Rattle.wish.proofs.Quotients.{doubleOf-exact}
+
+-- ---- "whole units" and "hold (0 units)"; of the two sorts of float `Floor` has the laws
+
+pub whole-units : (u : ℤ) (v : ℕ) → unitsOf (Wish.the-variants.Units u) v ≡ Units u
+unfolding unitsOf
+whole-units u v = refl
+
+pub hold-units : (v : ℕ) → unitsOf Hold v ≡ Units (pos 0)
+unfolding unitsOf
+hold-units v = refl
+
+-- ---- trimming
 
 -- The speed v, with the units w trimmed for it and added.
 pub record NewSpeed (w : ℤ) (v hardest most limit : ℕ) : Type 0 where
@@ -21,29 +37,42 @@ pub record NewSpeed (w : ℤ) (v hardest most limit : ℕ) : Type 0 where
   pub within-limit : speed ≤ limit
 
 module _ (w : ℤ) (v hardest most limit : ℕ) where
-  low-is : negℤ (smallerOf (pos hardest) (pos v)) ≡ negℤ (pos (min hardest v))
-  low-is = ap negℤ (smaller-pos hardest v)
+  into : trimmedTo w v hardest most limit ≡ trimmedInto (negℤ (pos (min hardest v))) (smallerOf (pos most) (pos limit -ℤ pos v)) w
+  unfolding trimmedTo
+  into = ap (λ (l : ℤ). trimmedInto (negℤ l) (smallerOf (pos most) (pos limit -ℤ pos v)) w) (smaller-pos hardest v)
 
   -- nothing brakes harder than `hardest`, at any speed
   pub no-harder : negℤ (pos (min hardest v)) ≤ℤ trimmedTo w v hardest most limit
-  unfolding trimmedTo
-  no-harder =
-      let low = negℤ (smallerOf (pos hardest) (pos v)) in
-      subst (λ (z : ℤ). z ≤ℤ trimmedTo w v hardest most limit) low-is (not-below-low low (smallerOf (pos most) (pos limit -ℤ pos v)) w)
+  no-harder = rw into (not-below-low (min hardest v) (smallerOf (pos most) (pos limit -ℤ pos v)) w)
 
   -- what lies between the ends already is not changed
   pub inside-stands : negℤ (pos (min hardest v)) ≤ℤ w → w ≤ℤ pos most → w ≤ℤ (pos limit -ℤ pos v) → trimmedTo w v hardest most limit ≡ w
-  unfolding trimmedTo
-  inside-stands l a r =
-      inside-kept (negℤ (smallerOf (pos hardest) (pos v))) (smallerOf (pos most) (pos limit -ℤ pos v)) w
-      (subst (λ (z : ℤ). z ≤ℤ w) (sym low-is) l)
-      (below-both w (pos most) (pos limit -ℤ pos v) a r)
+  inside-stands l a r = into ∙ inside-kept (min hardest v) _ w l (below-both w (pos most) (pos limit -ℤ pos v) a r)
+
+  -- what lies below the lower end becomes the lower end, wherever the upper one is
+  pub below-raised : w ≤ℤ negℤ (pos (min hardest v)) → trimmedTo w v hardest most limit ≡ negℤ (pos (min hardest v))
+  below-raised h = into ∙ below-low (min hardest v) _ w h
+
+  capped-at : (top : ℤ) → smallerOf (pos most) (pos limit -ℤ pos v) ≡ top → negℤ (pos (min hardest v)) ≤ℤ top → top ≤ℤ w → trimmedTo w v hardest most limit ≡ top
+  capped-at top e l h = into ∙ ap (λ (z : ℤ). trimmedInto (negℤ (pos (min hardest v))) z w) e ∙ above-high (min hardest v) top w l h
+
+  -- what lies above the upper end becomes the upper end: `most`, where that is the smaller of the two,
+  pub above-capped-at-most : pos most ≤ℤ (pos limit -ℤ pos v) → pos most ≤ℤ w → trimmedTo w v hardest most limit ≡ pos most
+  above-capped-at-most s h = capped-at (pos most) (smaller-right (pos most) (pos limit -ℤ pos v) s) (neg-le-pos (min hardest v) most) h
+
+  -- or what the limit leaves, where that is, and the ends do not cross
+  pub above-capped-at-limit : (pos limit -ℤ pos v) ≤ℤ pos most → negℤ (pos (min hardest v)) ≤ℤ (pos limit -ℤ pos v) → (pos limit -ℤ pos v) ≤ℤ w → trimmedTo w v hardest most limit ≡ pos limit -ℤ pos v
+  above-capped-at-limit s l h = capped-at (pos limit -ℤ pos v) (smaller-left (pos limit -ℤ pos v) (pos most) s) l h
+
+  -- where they meet or cross, which takes a speed at or above the limit, the lower end wins whatever the units are
+  pub crossed-brakes : (pos limit -ℤ pos v) ≤ℤ negℤ (pos (min hardest v)) → trimmedTo w v hardest most limit ≡ negℤ (pos (min hardest v))
+  crossed-brakes h = into ∙ ends-crossed (min hardest v) _ w (not-above-right (pos most) (pos limit -ℤ pos v) h)
 
   module _ (allowed : v ≤ limit) where
     ends : trimmedTo w v hardest most limit ≡ trimmedInto (negℤ (pos (min hardest v))) (pos (min most (limit - v))) w
-    unfolding trimmedTo
     ends =
-        ap₂ (λ (l h : ℤ). trimmedInto l h w) low-is
+        into
+        ∙ ap (λ (h : ℤ). trimmedInto (negℤ (pos (min hardest v))) h w)
         (ap (smallerOf (pos most)) (pos-minus limit v allowed) ∙ smaller-pos most (limit - v))
 
     -- a speed within the limit stays there, and rises by no more than `most`
@@ -53,6 +82,8 @@ module _ (w : ℤ) (v hardest most limit : ℕ) where
         let h = min most (limit - v) in
         let s = sum-between v k h (min-le-right hardest v) (between k h w) in
         record { speed = s .value; is = ap (λ (t : ℤ). pos v +ℤ t) ends ∙ s .is; rises-at-most = omega arith; within-limit = omega arith }
+
+-- ---- readings
 
 -- both doubles of a reading are exact
 pub reading-exact : (p v : ℕ) → p < 2 ^ 53 → v < 2 ^ 53 → HasValue (readingOf p v .position) false p 2048 × HasValue (readingOf p v .speed) false v 128

@@ -5,10 +5,41 @@ use Prim.Native.Nat.{ℕ, zero, suc, _+_, _-_, _≤_, min, zero-le, suc-le-suc}
 use native.Mathlib.Nat.{le-refl, le-trans, le-of-lt, min-le-left, min-eq-left, min-eq-right}
 use native.Mathlib.Omega.{arith}
 use borrow.Author.Tests.{ltb-true, ltb-false, le-ltb}
-use lib.Dec.{T, ltb}
+use lib.Dec.{T, ltb, leb→le, le→leb, ltb→lt}
 use lib.IntN.{ℤ, pos, negsuc, negℤ, _+ℤ_, _-ℤ_}
-use lib.Signed.{ltZ, _≤ℤ_, ≤ℤ-refl, ltZ-yes, ltZ-no, clashℤ}
+use lib.Signed.{ltZ, _≤ℤ_, _<ℤ_, ≤ℤ-refl, <ℤ-≤ℤ-trans, leZ-yes, ltZ-yes, ltZ-no, clashℤ}
 use Rattle.wish.specs.Trimming.{smallerOf, trimmedInto}
+
+-- ---- the order of the integers
+lt-le : {a b : ℤ} → a <ℤ b → a ≤ℤ b
+lt-le {a = pos a} {b = pos b} h = leZ-yes (le→leb a b (le-of-lt (ltb→lt a b (h .lt))))
+lt-le {a = pos a} {b = negsuc b} h = absurd (h .lt)
+lt-le {a = negsuc a} {b = pos b} h = leZ-yes tt
+lt-le {a = negsuc a} {b = negsuc b} h = leZ-yes (le→leb b a (le-of-lt (ltb→lt b a (h .lt))))
+
+le-antisym : (a b : ℤ) → a ≤ℤ b → b ≤ℤ a → a ≡ b
+le-antisym (pos a) (pos b) h k = ap pos (omega (arith, leb→le a b (h .le), leb→le b a (k .le)))
+le-antisym (pos a) (negsuc b) h k = absurd (h .le)
+le-antisym (negsuc a) (pos b) h k = absurd (k .le)
+le-antisym (negsuc a) (negsuc b) h k = ap negsuc (omega (arith, leb→le b a (h .le), leb→le a b (k .le)))
+
+not-lt : (a b : ℤ) → a ≤ℤ b → ltZ b a ≡ false
+not-lt a b h = go (ltZ b a) refl
+  where
+    go : (t : Bool) → ltZ b a ≡ t → t ≡ false
+    go true e = clashℤ {a = b} {b = a} (ltZ-yes (subst T (sym e) tt)) h
+    go false e = refl
+
+le-through : {a b c : ℤ} → a ≤ℤ b → b ≤ℤ c → a ≤ℤ c
+le-through {a} {b} {c} h k = go (ltZ c a) refl
+  where
+    go : (t : Bool) → ltZ c a ≡ t → a ≤ℤ c
+    go true e = clashℤ (<ℤ-≤ℤ-trans (ltZ-yes {a = c} {b = a} (subst T (sym e) tt)) h) k
+    go false e = ltZ-no (subst (λ (t : Bool). T (not t)) (sym e) tt)
+
+pub neg-le-pos : (k m : ℕ) → negℤ (pos k) ≤ℤ pos m
+neg-le-pos zero m = leZ-yes (le→leb 0 m zero-le)
+neg-le-pos (suc k) m = leZ-yes tt
 
 -- ---- the smaller of two
 pub smaller-pos : (a b : ℕ) → smallerOf (pos a) (pos b) ≡ pos (min a b)
@@ -18,13 +49,6 @@ smaller-pos a b = go (ltb a b) refl
     go : (t : Bool) → ltb a b ≡ t → cond t (pos a) (pos b) ≡ pos (min a b)
     go true e = ap pos (sym (min-eq-left (le-of-lt (ltb-true a b e))))
     go false e = ap pos (sym (min-eq-right (ltb-false a b e)))
-
-not-lt : (a b : ℤ) → a ≤ℤ b → ltZ b a ≡ false
-not-lt a b h = go (ltZ b a) refl
-  where
-    go : (t : Bool) → ltZ b a ≡ t → t ≡ false
-    go true e = clashℤ {a = b} {b = a} (ltZ-yes (subst T (sym e) tt)) h
-    go false e = refl
 
 pub smaller-left : (a b : ℤ) → a ≤ℤ b → smallerOf b a ≡ a
 unfolding smallerOf
@@ -38,18 +62,60 @@ below-both w a b p q = go (ltZ a b)
     go true = p
     go false = q
 
--- ---- trimmed into low to high
-pub not-below-low : (low high w : ℤ) → low ≤ℤ trimmedInto low high w
-unfolding trimmedInto
-not-below-low low high w = raised (smallerOf high w) (ltZ (smallerOf high w) low) refl
+-- the smaller of two is at or below what one of them is at or below
+not-above-left : (a b : ℤ) {c : ℤ} → a ≤ℤ c → smallerOf a b ≤ℤ c
+unfolding smallerOf
+not-above-left a b {c} h = go (ltZ a b) refl
   where
-    raised : (x : ℤ) (t : Bool) → ltZ x low ≡ t → low ≤ℤ cond t low x
-    raised x true e = ≤ℤ-refl low
-    raised x false e = ltZ-no {a = x} {b = low} (subst (λ (t : Bool). T (not t)) (sym e) tt)
+    go : (t : Bool) → ltZ a b ≡ t → cond t a b ≤ℤ c
+    go true e = h
+    go false e = le-through (ltZ-no (subst (λ (t : Bool). T (not t)) (sym e) tt)) h
 
-pub inside-kept : (low high w : ℤ) → low ≤ℤ w → w ≤ℤ high → trimmedInto low high w ≡ w
-unfolding trimmedInto
-inside-kept low high w p q = ap (λ (x : ℤ). cond (ltZ x low) low x) (smaller-left w high q) ∙ ap (λ (t : Bool). cond t low w) (not-lt low w p)
+pub not-above-right : (a b : ℤ) {c : ℤ} → b ≤ℤ c → smallerOf a b ≤ℤ c
+unfolding smallerOf
+not-above-right a b {c} h = go (ltZ a b) refl
+  where
+    go : (t : Bool) → ltZ a b ≡ t → cond t a b ≤ℤ c
+    go true e = lt-le (<ℤ-≤ℤ-trans (ltZ-yes (subst T (sym e) tt)) h)
+    go false e = h
+
+pub smaller-right : (a b : ℤ) → a ≤ℤ b → smallerOf a b ≡ a
+smaller-right a b h = le-antisym (smallerOf a b) a (not-above-left a b (≤ℤ-refl a)) (below-both a a b (≤ℤ-refl a) h)
+
+-- ---- trimmed into -k to high
+module _ (k : ℕ) (high w : ℤ) where
+  abbrev low : ℤ
+  low = negℤ (pos k)
+
+  pub not-below-low : low ≤ℤ trimmedInto low high w
+  unfolding trimmedInto
+  not-below-low = raised (smallerOf high w) (ltZ (smallerOf high w) low) refl
+    where
+      raised : (x : ℤ) (t : Bool) → ltZ x low ≡ t → low ≤ℤ cond t low x
+      raised x true e = ≤ℤ-refl low
+      raised x false e = ltZ-no (subst (λ (t : Bool). T (not t)) (sym e) tt)
+
+  pub inside-kept : low ≤ℤ w → w ≤ℤ high → trimmedInto low high w ≡ w
+  unfolding trimmedInto
+  inside-kept p q = ap (λ (x : ℤ). cond (ltZ x low) low x) (smaller-left w high q) ∙ ap (λ (t : Bool). cond t low w) (not-lt low w p)
+
+  pub above-high : low ≤ℤ high → high ≤ℤ w → trimmedInto low high w ≡ high
+  unfolding trimmedInto
+  above-high p q = ap (λ (x : ℤ). cond (ltZ x low) low x) (smaller-right high w q) ∙ ap (λ (t : Bool). cond t low high) (not-lt low high p)
+
+  capped-below : smallerOf high w ≤ℤ low → trimmedInto low high w ≡ low
+  unfolding trimmedInto
+  capped-below h = go (ltZ (smallerOf high w) low) refl
+    where
+      go : (t : Bool) → ltZ (smallerOf high w) low ≡ t → cond t low (smallerOf high w) ≡ low
+      go true e = refl
+      go false e = le-antisym (smallerOf high w) low h (ltZ-no (subst (λ (t : Bool). T (not t)) (sym e) tt))
+
+  pub below-low : w ≤ℤ low → trimmedInto low high w ≡ low
+  below-low h = capped-below (not-above-right high w h)
+
+  pub ends-crossed : high ≤ℤ low → trimmedInto low high w ≡ low
+  ends-crossed h = capped-below (not-above-left high w h)
 
 -- a number from -k to h
 pub data Between (k h : ℕ) : ℤ → Type 0 where

@@ -3,3 +3,4 @@ pub mod Rounding
 pub mod Units
 pub mod Trimming
 pub mod Reading
+pub mod Cases
