@@ -1,7 +1,7 @@
 -- Integers that are natural numbers: a sum with an integer a that gives one, and its multiples.
 use mathlib.Core.Path.{_≡_, refl, sym, ap, _∙_}
 use mathlib.Core.Bool.{Bool, true, false, cond}
-use Prim.Native.Nat.{ℕ, zero, suc, _+_, _-_, _*_, _≤_, _<_}
+use Prim.Native.Nat.{ℕ, zero, suc, _+_, _-_, _*_, _≤_, _<_, zero-le}
 use native.Mathlib.Nat.{add-mul, le-of-suc-le-suc}
 use native.Mathlib.Omega.{arith}
 use borrow.Author.Tests.{le-ltb, ltb-false}
@@ -62,6 +62,12 @@ neg-le zero zero h = record { le = tt }
 neg-le zero (suc y) h = absurd (omega arith)
 neg-le (suc x) zero h = record { le = tt }
 neg-le (suc x) (suc y) h = record { le = le→leb y x (le-of-suc-le-suc h) }
+
+-- what leads from v to a natural number is at least −v
+pub at-least : (v : ℕ) (a : ℤ) (u : ℕ) → pos v +ℤ a ≡ pos u → negℤ (pos v) ≤ℤ a
+at-least zero (pos n) u e = record { le = le→leb 0 n zero-le }
+at-least (suc v) (pos n) u e = record { le = tt }
+at-least v (negsuc n) u e = let r : v ≡ u + suc n = reach v (negsuc n) u e in neg-le v (suc n) (omega arith)
 
 -- x added to v and to u
 pub more : (x v : ℕ) (a : ℤ) (u : ℕ) → pos v +ℤ a ≡ pos u → pos (x + v) +ℤ a ≡ pos (x + u)

@@ -13,7 +13,7 @@ use Rattle.headway.specs.Motion.{speedAfter, positionAfter, positionAt}
 use Rattle.headway.specs.Stopping.{braking, slowed, gained, stoppingDistance, safeBehind}
 use Rattle.headway.specs.Wishes.{restsBehind}
 use Rattle.headway.specs.Totals.{restOf, safeOf, passesOf}
-use Rattle.headway.proofs.Integers.{pos-minus, reached, lt-pos, neg-le}
+use Rattle.headway.proofs.Integers.{pos-minus, reached, lt-pos, neg-le, at-least}
 use Rattle.headway.proofs.Motion.{weightedAt, speed-is, position-sum-is, position-is, trajectory-is, from-to, braked, driven, slower}
 use Rattle.headway.proofs.Signed.{is-speed}
 use Rattle.headway.proofs.Totals.{two-rates, rest-is}
@@ -44,6 +44,10 @@ pub position-sum : (p v : ℕ) (a : ℤ) → negℤ (pos v) ≤ℤ a → pos (po
 position-sum p v a h =
     let r = leads v a h in
     ap pos (position-is v a (r .0) (r .1) p) ∙ sym (position-sum-is v a (r .0) (r .1) p)
+
+-- what is no harder than braking at some rate is such an acceleration
+pub not-past-rest : (c v : ℕ) (a : ℤ) → braking c v ≤ℤ a → negℤ (pos v) ≤ℤ a
+not-past-rest c v a h = let d = driven c v a h in at-least v a (d .0) (d .1)
 
 -- "After the fraction k/n of it (n at least 1, k from 0 to n), n² times the position is n²p + 2vkn + ak²."
 pub fraction-form : (n k p v : ℕ) (a : ℤ) → positionAt n k p v a ≡ pos (n * n * p) +ℤ pos (2 * v * k * n) +ℤ a *ℤ pos (k * k)

@@ -2,15 +2,19 @@
 use mathlib.Core.Path.{_≡_, refl, ap, _∙_}
 use mathlib.Core.Bool.{Bool, true, false, cond}
 use mathlib.Core.List.{List, [], _∷_}
-use Prim.Native.Nat.{ℕ, zero, suc, _/_, _%_, _^_, _≤_, _<_}
+use Prim.Native.Nat.{ℕ, zero, suc, _/_, _%_, _^_, _≤_, _<_, min}
 use native.Mathlib.Nat.{pow-suc, div-one, div-div-eq-div-mul, mul-comm}
 use native.Mathlib.Omega.{arith}
 use borrow.Author.Tests.{lt-leb, le-leb}
 use lib.Dec.{eqb, ltb}
-use lib.IntN.{ℤ, pos}
+use lib.IntN.{ℤ, pos, negℤ}
 use lib.ListN.{length, getD}
+use lib.Signed.{_≤ℤ_, ≤ℤ-refl}
 use Rattle.headway.specs.Motion.{positionAfter}
 use Rattle.headway.specs.Stopping.{braking}
+use Rattle.headway.proofs.Laws.{braking-is, not-past-rest}
+use Rattle.wish.specs.Units.{unitsOf}
+use Rattle.wish.proofs.Laws.{no-harder}
 use Rattle.wish.specs.declared.Wish.{Wish}
 use Rattle.wish.specs.declared.Wish.the-variants.{Hold}
 use Rattle.lane.specs.declared.Carrier.{Carrier}
@@ -19,7 +23,7 @@ use Rattle.lane.specs.Safety.{guaranteedRate, firstPlace, numbered}
 use Rattle.lane.specs.Calls.{none, insertAt, placeOf, removeAt}
 use Rattle.lane.proofs.CallLaws.{place-nobody, place-here, place-further}
 use Rattle.lane.proofs.CycleLaws.{Drove, nobody-drives, stays-on, is-gone}
-use Rattle.history.specs.Book.{Book, putIn, takeOut, trimmedIn, drivenIn, drivenOn}
+use Rattle.history.specs.Book.{Book, putIn, takeOut, unitsFrom, trimmedIn, drivenIn, drivenOn}
 use Rattle.history.specs.Claims.{isReplaced}
 
 -- ---- enter
@@ -49,6 +53,14 @@ take-out number (c ∷ cs) = by-test (numbered number c) refl (take-out number c
     by-test false e h = rw (place-further (numbered number) c cs e) (ap (λ (l : List Carrier). c ∷ l) h)
 
 -- ---- cycle
+
+-- holding the speed is no braking
+resting : (v : ℕ) → negℤ (pos v) ≤ℤ pos 0
+resting v = not-past-rest 0 v (pos 0) (rw (braking-is 0 v, none-of v) (≤ℤ-refl (pos 0)))
+  where
+    none-of : (n : ℕ) → min 0 n ≡ 0
+    none-of n = omega arith
+
 module _ (b : Book) where
   pub driven-length : (word : ℕ) (cs : List Carrier) (ws : List Wish) → length cs ≤ length ws → length (drivenIn b word cs ws) ≡ length cs
   unfolding drivenIn
@@ -66,6 +78,22 @@ module _ (b : Book) where
   driven-at word (c ∷ cs) (w ∷ ws) zero p h = rw (div-one word) refl
   driven-at word (c ∷ cs) (w ∷ ws) (suc i) p h =
       rw (pow-suc 2 i, mul-comm (2 ^ i) 2, ← div-div-eq-div-mul word 2 (2 ^ i)) (driven-at (word / 2) cs ws i (omega arith) (omega arith))
+
+  -- and is at least −v
+  pub driven-at-least : (word : ℕ) (cs : List Carrier) (ws : List Wish) (i : ℕ)
+      → negℤ (pos (getD cs i none .speed)) ≤ℤ getD (drivenIn b word cs ws) i (pos 0)
+  unfolding drivenIn trimmedIn
+  driven-at-least word [] ws i = ≤ℤ-refl (pos 0)
+  driven-at-least word (c ∷ cs) [] i = resting (getD (c ∷ cs) i none .speed)
+  driven-at-least word (c ∷ cs) (w ∷ ws) zero = by-bit (eqb (word % 2) 1)
+    where
+      by-bit : (t : Bool) → negℤ (pos (c .speed)) ≤ℤ cond t (braking (guaranteedRate (rowIn (b .road)) c) (c .speed)) (trimmedIn b c w)
+      by-bit true = not-past-rest (guaranteedRate (rowIn (b .road)) c) (c .speed) _ (≤ℤ-refl _)
+      by-bit false =
+          let r = rowIn (b .road) in
+          not-past-rest (r .hardest) (c .speed) (trimmedIn b c w)
+          (rw (braking-is (r .hardest) (c .speed)) (no-harder (unitsFrom (unitsOf w (c .speed))) (c .speed) (r .hardest) (r .most) (b .road .limit)))
+  driven-at-least word (c ∷ cs) (w ∷ ws) (suc i) = driven-at-least (word / 2) cs ws i
 
 pub driven-on : {end : ℕ} {cs ds : List Carrier} {accs : List ℤ} → Drove end cs accs ds → drivenOn end cs accs ≡ ds
 unfolding drivenOn

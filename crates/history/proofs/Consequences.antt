@@ -2,22 +2,26 @@
 use mathlib.Core.Path.{_≡_, refl, sym, ap, _∙_, subst}
 use mathlib.Core.Bool.{Bool, true, false, _&&_, _||_, true≢false}
 use mathlib.Core.List.{List, [], _∷_, _++_}
-use Prim.Native.Nat.{ℕ, _^_, _≤_, _<_}
+use Prim.Native.Nat.{ℕ, _*_, _^_, _≤_, _<_}
 use native.Mathlib.Omega.{arith}
 use borrow.Author.Tests.{le-ltb, ltb-true, ltb-false}
-use lib.Dec.{eqb, ltb}
+use lib.Dec.{eqb, ltb, ltb→lt}
 use lib.ListN.{length, getD}
-use lib.Signed.{<ℤ-irrefl}
+use lib.IntN.{pos}
+use lib.Signed.{_<ℤ_, <ℤ-irrefl}
+use Rattle.headway.specs.Motion.{positionAfter}
+use Rattle.headway.proofs.Laws.{fraction-at-start, fraction-at-end}
 use Rattle.wish.specs.declared.Wish.{Wish}
 use Rattle.lane.specs.declared.Carrier.{Carrier}
 use Rattle.lane.specs.Layout.{Words, stateOf}
 use Rattle.lane.specs.Calls.{none}
 use Rattle.lane.specs.Call.{Call, cycle-call, Answer, callNo, Kept}
 use Rattle.lane.proofs.CallLaws.{answer-number, kept-not-21}
-use Rattle.history.specs.Book.{Seen, Book, begun, booked}
+use Rattle.history.specs.Book.{Seen, Book, begun, drivenIn, booked}
 use Rattle.history.specs.Claims.{kindOf, carrierAt, placeAt, restsLevelOrCrossed, Claims}
 use Rattle.history.specs.History.{Event, seen, Ran, AllTyped, HistoryOf, isStart, startsLane, Chain, chain-end, chain-next, Throughout, NeverBroken}
 use Rattle.history.proofs.Bits.{below-power}
+use Rattle.history.proofs.Books.{driven-at-least}
 use Rattle.history.proofs.Lasting.{goes-on}
 use Rattle.history.proofs.History.{ran-gives, history}
 use Rattle.history.proofs.Answered.{every-list}
@@ -64,6 +68,13 @@ apart-after after s b c i j d p q e = by-order (ltb i j) refl
 
 -- ---- in a cycle run
 
+-- where the carrier at a place is after the whole cycle
+abbrev pub endOf : Book → (word : ℕ) → List Wish → (i : ℕ) → ℕ
+endOf b word ws i = positionAfter (carrierAt b i .position) (carrierAt b i .speed) (getD (drivenIn b word (b .carriers) ws) i (pos 0))
+
+pos-below : {x y : ℕ} → pos (1 * 1 * x) <ℤ pos (1 * 1 * y) → x < y
+pos-below {x} {y} h = let k = ltb→lt (1 * 1 * x) (1 * 1 * y) (h .lt) in omega arith
+
 -- no two are level at any fraction
 pub apart-within : (after : Words) (count word : ℕ) (ws : List Wish) (b : Book)
     → Claims after (record { call = cycle-call count ws; refused = false; word = word }) b
@@ -73,6 +84,21 @@ apart-within after count word ws b c n k i j hn hk d p q e = by-order (ltb i j) 
     by-order : (t : Bool) → ltb i j ≡ t → ⊥
     by-order true h = <ℤ-irrefl (rw e at (c .cycle-run .0 n k i j hn hk (ltb-true i j h) q))
     by-order false h = <ℤ-irrefl (rw (sym e) at (c .cycle-run .0 n k j i hn hk (omega (arith, d, ltb-false i j h)) p))
+
+-- at its start and at its end, where those are who are gone after it too, each is below every one ahead in the very positions
+module _ (after : Words) (count word : ℕ) (ws : List Wish) (b : Book)
+    (c : Claims after (record { call = cycle-call count ws; refused = false; word = word }) b) (i j : ℕ) (p : i < j) (q : j < length (b .carriers)) where
+  pub apart-at-start : carrierAt b j .position < carrierAt b i .position
+  apart-at-start =
+      pos-below (rw (fraction-at-start 1 (carrierAt b j .position), fraction-at-start 1 (carrierAt b i .position)) at (c .cycle-run .0 1 0 i j (omega arith) (omega arith) p q))
+
+  pub apart-at-end : endOf b word ws j < endOf b word ws i
+  apart-at-end =
+      pos-below
+      (rw (
+        fraction-at-end 1 _ _ _ (driven-at-least b word (b .carriers) ws j),
+        fraction-at-end 1 _ _ _ (driven-at-least b word (b .carriers) ws i),
+      ) at (c .cycle-run .0 1 1 i j (omega arith) (omega arith) p q))
 
 -- a bit is set for a carrier's wish alone
 pub word-within : (after : Words) (count word : ℕ) (ws : List Wish) (b : Book)
@@ -99,14 +125,6 @@ lasting {l} started h (chain-next {e = e} g w r) =
           (λ q. subst Kept (sym (g .state)) (goes-on (e .call) (stateOf l) started h (rw number at q))) r,
     )
 
--- what is known of a list is known of a part of it that others come before
-later : (started : Bool) (before es : List Event) → NeverBroken started (before ++ es)
-    → (still : Bool) × (started ≡ true → still ≡ true) × NeverBroken still es
-later started [] es n = (started, λ q. q, n)
-later started (x ∷ before) es n =
-    let r = later (started || startsLane x) before es (n .1) in
-    (r .0, λ q. r .1 (rw q refl), r .2)
-
 -- from any lane at all: once a start was accepted no call gives 21
 pub never-broken : (l : Words) (es : List Event) (d : Words) → Ran l es d → NeverBroken false es
 never-broken l es d r = lasting false (λ q. absurd (true≢false (sym q))) (ran-gives r)
@@ -122,3 +140,11 @@ started-for-good l d before e between f after r starts =
     either : (t : Bool) → t || true ≡ true
     either true = refl
     either false = refl
+
+    -- what is known of a list is known of a part of it that others come before
+    later : (started : Bool) (first rest : List Event) → NeverBroken started (first ++ rest)
+        → (still : Bool) × (started ≡ true → still ≡ true) × NeverBroken still rest
+    later started [] rest n = (started, λ q. q, n)
+    later started (x ∷ first) rest n =
+        let k = later (started || startsLane x) first rest (n .1) in
+        (k .0, λ q. k .1 (rw q refl), k .2)
