@@ -119,9 +119,16 @@ class Declaration:
     text: str
     line: int
 
+    def bound(self):
+        """The names that stand for variables somewhere in the text: of binders, of `let` and `λ`, and of the clauses' patterns."""
+        binders = re.findall(r"[({]([^(){}:]*?)\s:\s|\blet\s+([^=:]*?)\s[=:]|λ\s+([^.:]*)\.", self.text)
+        patterns = re.findall(rf"^ *(?!unfolding ){NAME}((?: [^=:\n]*?)?) =\s", self.text, re.M)
+        return {plain(name) for text in [*map(" ".join, binders), *patterns] for name in re.findall(NAME, text)}
+
     def cited(self):
-        """The paths that the text holds, but for what it declares."""
-        return {split_path(found) for found in PATH.findall(self.text)}
+        """The paths that the text holds, but for variables."""
+        bound = self.bound()
+        return {path for path in map(split_path, PATH.findall(self.text)) if path[0] not in bound}
 
 
 HEADER = re.compile(r"(?:(?:pub|unfoldable)\s+)*(use|mod)\s+(.*)", re.S)
@@ -262,6 +269,34 @@ def absolute(path, module, without=frozenset()):
     if not brought:
         return [path]
     return [whole + rest for one in brought for whole in absolute(one.path, module, without | {one})]
+
+
+# The first error of a check, with what it says, or the first fact that is left open in a function.
+ERROR = re.compile(r"^(?:(\S+): error: (.*)|note: (\S+): it is not proved that .*)$", re.M)
+
+
+def refusal_log(crate, label):
+    """Where the prover's words on a must-fail edit are kept."""
+    return ROOT / "target" / "must-fail" / crate / label / ".log"
+
+
+class BadEdit(Exception):
+    """An edit that cannot be applied."""
+
+
+def apply_edit(text, folder, line_end=None):
+    """Each `old:` text of an edit, which stands once in the `file:` above it, replaced by the `new:` text; the files that are changed."""
+    files = []
+    for file, old, new in edit_pairs(text, line_end):
+        path = folder / file
+        before = path.read_text() if path.is_file() else ""
+        if not old or before.count(old) != 1:
+            raise BadEdit(f"an 'old:' text stands {before.count(old) if old else 0} times in {file}")
+        path.write_text(before.replace(old, new))
+        files.append(path)
+    if not files:
+        raise BadEdit("it has no 'old:' and 'new:' pair")
+    return files
 
 
 def edit_pairs(text, line_end=None):
