@@ -12,7 +12,8 @@ CRATES = ROOT / "crates"
 
 NAME = r'(?:«[^»]*»|[^\s(){}.;,@"«»]+)'
 PATH = re.compile(rf"{NAME}(?:\.{NAME})*")
-ANTT_TOKEN = re.compile(rf'"(?:\\.|[^"\\])*"|\{{-|{NAME}|.', re.S)
+# A text in quotes, a comment to the line's end, the start of a nested one, or anything up to the next of them.
+ANTT_PART = re.compile(rf'"(?:\\.|[^"\\])*"|--[^\n]*|\{{-|(?:(?!--){NAME}|[\s()}}.;,@]|\{{(?!-))+|.', re.S)
 COMMENT_END = re.compile(r"\{-|-\}")
 # A lifetime has no closing quote.
 RATTLE_TOKEN = re.compile(r"""//[^\n]*|/\*|b?r(#*)".*?"\1|b?"(?:\\.|[^"\\])*"|b?'(?:\\[^\n']+|[^\\\n'])'|.""", re.S)
@@ -38,14 +39,10 @@ def antt_code(text):
     """An antt text without its comments and quoted texts. `--` begins a comment where a name could begin, and is part of one elsewhere."""
     parts, at = [], 0
     while at < len(text):
-        found = ANTT_TOKEN.match(text, at)
-        token, end = found[0], found.end()
-        if token == "{-":
-            end = after_comment(text, at, COMMENT_END)
-        elif token.startswith("--"):
-            end = text.find("\n", at) if "\n" in text[at:] else len(text)
-        hidden = token == "{-" or token.startswith(("--", '"')) and token != '"'
-        parts.append(blank(text[at:end]) if hidden else token)
+        part = ANTT_PART.match(text, at)[0]
+        end = after_comment(text, at, COMMENT_END) if part == "{-" else at + len(part)
+        hidden = part.startswith(("{-", "--", '"')) and part != '"'
+        parts.append(blank(text[at:end]) if hidden else part)
         at = end
     return "".join(parts)
 
@@ -284,23 +281,9 @@ class BadEdit(Exception):
     """An edit that cannot be applied."""
 
 
-def apply_edit(text, folder, line_end=None):
-    """Each `old:` text of an edit, which stands once in the `file:` above it, replaced by the `new:` text; the files that are changed."""
-    files = []
-    for file, old, new in edit_pairs(text, line_end):
-        path = folder / file
-        before = path.read_text() if path.is_file() else ""
-        if not old or before.count(old) != 1:
-            raise BadEdit(f"an 'old:' text stands {before.count(old) if old else 0} times in {file}")
-        path.write_text(before.replace(old, new))
-        files.append(path)
-    if not files:
-        raise BadEdit("it has no 'old:' and 'new:' pair")
-    return files
-
-
 def edit_pairs(text, line_end=None):
-    """The file, old and new text of each pair of an edit; `line_end` stands for the end of a line."""
+    """The file, old and new text of each pair of an edit, with `line_end` for the end of a line. Without an `old:` a file is written, and where
+    `gone:` names it there is no new text."""
     file = old = None
     for line in text.split("\n"):
         value = line.partition(":")[2].removeprefix(" ")
@@ -312,3 +295,24 @@ def edit_pairs(text, line_end=None):
         elif line.startswith("new:"):
             yield file, old, value
             old = None
+        elif line.startswith("gone: ") and line_end:
+            yield value, None, None
+
+
+def apply_edit(text, folder, line_end=None):
+    """Each `old:` text of an edit, which stands once in the `file:` above it, replaced by the `new:` text."""
+    pairs = list(edit_pairs(text, line_end))
+    for file, old, new in pairs:
+        path = folder / file
+        before = path.read_text() if path.is_file() else ""
+        if new is None:
+            path.unlink()
+        elif line_end and not old and not before:
+            path.parent.mkdir(parents=True, exist_ok=True)
+            path.write_text(new)
+        elif not old or before.count(old) != 1:
+            raise BadEdit(f"an 'old:' text stands {before.count(old) if old else 0} times in {file}")
+        else:
+            path.write_text(before.replace(old, new))
+    if not pairs:
+        raise BadEdit("it has no 'old:' and 'new:' pair")
