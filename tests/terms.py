@@ -12,27 +12,32 @@ REFLEXIVE = ("≡", "≤", "→", "↔", "⊆")
 
 
 def tree(text):
-    """The tokens of a term; what stands in brackets is a list."""
+    """The tokens of a term; what stands in brackets is a list, with the brace first where it is one, and one token alone is itself."""
     stack = [[]]
+
+    def close():
+        group = stack.pop()
+        stack[-1].append(group[0] if len(group) == 1 else group)
+
     for token in TOKEN.findall(text.replace("⌜", " ( ").replace("⌝", " ) ")):
         if token in "({":
-            stack.append([])
-        elif token in ")}" and len(stack) > 1:
-            group = stack.pop()
-            stack[-1].append(group)
-        else:
+            stack.append(["{"] if token == "{" else [])
+        elif token not in ")}":
             stack[-1].append(token)
+        elif len(stack) > 1:
+            close()
     while len(stack) > 1:
-        group = stack.pop()
-        stack[-1].append(group)
+        close()
     return stack[0]
 
 
-def bare(term):
-    """A term without brackets around the whole of it."""
-    while isinstance(term, list) and len(term) == 1:
-        term = term[0]
-    return term
+def bare(tokens):
+    """A term of one token is that token."""
+    return tokens[0] if isinstance(tokens, list) and len(tokens) == 1 else tokens
+
+
+def implicit(token):
+    return isinstance(token, list) and token[:1] == ["{"]
 
 
 def operator(token):
@@ -57,6 +62,12 @@ def groups(tokens):
     for token in tokens:
         if isinstance(token, list):
             yield from groups(token)
+
+
+def concluded(tokens):
+    """A term without the premises of its implications: what is named in a premise alone is not spoken of."""
+    start = max((at + 1 for at, token in enumerate(tokens) if token == "→"), default=0)
+    return [concluded(token) if isinstance(token, list) else token for token in tokens[start:]]
 
 
 def says_nothing(text):
@@ -106,30 +117,31 @@ def record_parameters(head):
 
 
 def bodies(known, index):
-    """The texts of a definition, each with the name of its argument at an index: one for each clause, one for a record."""
+    """The texts of a definition, each with the name of its argument at an index: one for each clause, or each field of a record."""
     declaration = known.declaration
     if declaration.kind in ("record", "data"):
         head, _, body = declaration.text.partition(" where")
         names = record_parameters(head)
-        return [(names[index], body)] if index < len(names) else []
+        parts = re.split(rf"\n\s*(?:pub\s+)?{NAME}\s+:(?=\s)", body)
+        return [(names[index], part) for part in parts if index < len(names)]
     found = []
     for clause in re.split(rf"\n(?={re.escape(declaration.name)}\s)", declaration.text)[1:]:
         left, equals, right = re.split(r"(?<=\s)(=)(?=\s)", clause, maxsplit=1) if re.search(r"\s=\s", clause) else (clause, "", "")
-        patterns = [token for token in tree(left)[1:] if not (isinstance(token, str) and token.startswith("."))]
-        if equals and index < len(patterns) and isinstance(bare(patterns[index]), str):
-            found.append((plain(bare(patterns[index])), right))
+        patterns = [token for token in tree(left)[1:] if not implicit(token)]
+        if equals and index < len(patterns) and isinstance(patterns[index], str):
+            found.append((plain(patterns[index]), right))
     return found
 
 
 def uses(text, name):
     """How a term uses a variable: ("field", f), ("whole", the operator beside it), or ("argument", the function's path, which one)."""
-    for tokens in groups(tree(text)):
+    for tokens in groups(concluded(tree(text))):
         for before, part, after in cut(tokens, operator):
             for at, token in enumerate(part):
                 tight = split_path(token) if isinstance(token, str) and not token.startswith(".") else ()
                 if tight[:1] == (name,) and len(tight) > 1:
                     yield "field", tight[1]
-                if bare(token) != name and tight != (name,):
+                if tight != (name,):
                     continue
                 following = part[at + 1] if at + 1 < len(part) else None
                 if at == 0 and isinstance(following, str) and following.startswith("."):
@@ -137,11 +149,13 @@ def uses(text, name):
                 elif at == 0 and len(part) == 1:
                     yield "whole", before if before == "≡" else after
                 elif at > 0 and isinstance(part[0], str):
-                    yield "argument", split_path(part[0]), at - 1
+                    yield "argument", split_path(part[0]), at - 1 - sum(map(implicit, part[:at]))
 
 
 def told(text, name, part, place, seen=frozenset()):
     """Whether a term speaks of a field of a variable, or of the variable itself where `part` is None, through the definitions that it hands it to."""
+    if says_nothing(text):
+        return False
     for kind, what, *index in uses(text, name):
         if kind == "field" and part in (None, what):
             return True
