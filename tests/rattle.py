@@ -26,7 +26,7 @@ def balanced(code, start):
 
 @dataclass
 class Function:
-    """A function's head: its parameters and result as written, and its clauses, `requires` or `ensures` with the text in braces."""
+    """A function's head: its parameters and result as written, and its clauses, `requires` or `ensures` with the text in braces, or of no kind."""
 
     path: pathlib.Path
     name: str
@@ -73,11 +73,13 @@ def parameters(text, own):
 
 
 def clauses(code, at):
-    """The clauses that stand from a place on."""
+    """The clauses that stand from a place on, up to the body; whatever else stands there is one of no kind."""
     found = []
     while clause := CLAUSE.match(code, at):
         at = balanced(code, clause.end())
         found.append((clause[1], code[clause.end() + 1 : at - 1]))
+    if not re.compile(r"\s*[{;]").match(code, at):
+        found.append(("", code[at:].lstrip().split("\n")[0]))
     return found
 
 

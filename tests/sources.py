@@ -130,7 +130,7 @@ class Declaration:
 
 HEADER = re.compile(r"(?:(?:pub|unfoldable)\s+)*(use|mod)\s+(.*)", re.S)
 SIGNATURE = re.compile(rf"((?:(?:unfoldable|abbrev|axiom|pub)\s+)*)(data\s+|record\s+|ruleset\s+)?({NAME})(.*)", re.S)
-BLOCK = re.compile(r"module\b.*\bwhere|(?:(?:unfoldable|abbrev)\s+)*mutual", re.S)
+BLOCK = re.compile(r"module\s.*\swhere|(?:(?:unfoldable|abbrev)\s+)*mutual", re.S)
 
 
 def unclosed(lines):
@@ -275,6 +275,12 @@ ERROR = re.compile(r"^(?:(\S+): error: (.*)|note: (\S+): it is not proved that .
 def refusal_log(crate, label):
     """Where the prover's words on a must-fail edit are kept."""
     return ROOT / "target" / "must-fail" / crate / label / ".log"
+
+
+def must_fail_edits(crate, label):
+    """The files of a must-fail edit: one, unless there is none or both folders have it."""
+    folder = CRATES / crate / "must-fail"
+    return [path for path in (folder / f"{label}.edit", folder / "incremental" / f"{label}.edit") if path.is_file()]
 
 
 class BadEdit(Exception):
