@@ -119,7 +119,9 @@ class Declaration:
     def bound(self):
         """The names that stand for variables somewhere in the text: of binders, of `let` and `λ`, and of the clauses' patterns."""
         binders = re.findall(r"[({]([^(){}:]*?)\s:\s|\blet\s+([^=:]*?)\s[=:]|λ\s+([^.:]*)\.", self.text)
-        patterns = re.findall(rf"^ *(?!unfolding ){NAME}((?: [^=:\n]*?)?) =\s", self.text, re.M)
+        defined = {self.name, *map(plain, re.findall(rf"^ +({NAME}) : ", self.text, re.M))}
+        clauses = re.findall(rf"^ *({NAME})((?: [^=:\n]*?)?) =\s", self.text, re.M)
+        patterns = [text for name, text in clauses if plain(name) in defined]
         return {plain(name) for text in [*map(" ".join, binders), *patterns] for name in re.findall(NAME, text)}
 
     def cited(self):
@@ -270,6 +272,9 @@ def absolute(path, module, without=frozenset()):
 
 # The first error of a check, with what it says, or the first fact that is left open in a function.
 ERROR = re.compile(r"^(?:(\S+): error: (.*)|note: (\S+): it is not proved that .*)$", re.M)
+
+# An error that shows no fact to fail: what an edit did away with is missing.
+SHAPE = re.compile(r"has no `[^`]*` that can be named|has no field|is not in scope")
 
 
 def refusal_log(crate, label):

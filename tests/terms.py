@@ -102,8 +102,8 @@ def definition(path, place):
             module = antt(file[0])
             if found := module.declared(file[1][0]):
                 return Definition(module, found)
-            # passed on by another `use`
-            if file[1] != path:
+            # passed on by a `use` of that file
+            if module is not place:
                 return definition(file[1], module)
     return None
 
