@@ -17,7 +17,7 @@ def citations(modules):
     found = {}
     for module in modules:
         for one in module.declarations:
-            cited = (definition(path[:length], module) for path in one.cited() for length in range(1, len(path) + 1))
+            cited = (definition(path[:length], module) for path in one.cited for length in range(1, len(path) + 1))
             found[key(module, one)] = {key(known.module, known.declaration) for known in cited if known}
     return found
 

@@ -37,7 +37,7 @@ class Function:
     clauses: list
 
 
-@dataclass
+@dataclass(eq=False)
 class Source:
     path: pathlib.Path
     code: str

@@ -71,6 +71,7 @@ def plain(name):
     return name[1:-1] if name.startswith("«") else name
 
 
+@functools.cache
 def split_path(text):
     return tuple(plain(name) for name in re.findall(NAME, text))
 
@@ -105,7 +106,7 @@ def split_outside(text, mark):
     return parts + [text[start:]]
 
 
-@dataclass
+@dataclass(eq=False)
 class Declaration:
     """A signature with its clauses, a data type or a record."""
 
@@ -124,6 +125,7 @@ class Declaration:
         patterns = [text for name, text in clauses if plain(name) in defined]
         return {plain(name) for text in [*map(" ".join, binders), *patterns] for name in re.findall(NAME, text)}
 
+    @functools.cached_property
     def cited(self):
         """The paths that the text holds, but for variables."""
         bound = self.bound()
@@ -163,7 +165,7 @@ def items(code):
         yield current[0], "\n".join(current[1]).strip()
 
 
-@dataclass
+@dataclass(eq=False)
 class Module:
     """An antt file."""
 
@@ -239,6 +241,7 @@ def own_library(name):
     return found[1] if found and (CRATES / found[1]).is_dir() else None
 
 
+@functools.cache
 def module_file(path):
     """The file of the longest path to a module that a path begins with, and the names left; None where none is written."""
     crate = own_library(path[0])

@@ -1,4 +1,5 @@
 """What a term or a definition of antt says of one of its variables, read from the text."""
+import functools
 import re
 from dataclasses import dataclass
 
@@ -92,6 +93,7 @@ class Definition:
     declaration: object
 
 
+@functools.cache
 def definition(path, place):
     """What a path written in a place, an antt file or a contract's, means among the declarations of this repository."""
     if len(path) == 1 and hasattr(place, "declared") and (found := place.declared(path[0])):
