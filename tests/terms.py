@@ -75,8 +75,7 @@ def says_nothing(text):
     """A relation in the term of which both sides are the same."""
     for tokens in groups(tree(text)):
         for mark in REFLEXIVE:
-            wide = [token for token in LOOSE if token != mark] if mark == "→" else LOOSE - {mark}
-            for _, part, _ in cut(tokens, lambda token: isinstance(token, str) and token in wide):
+            for _, part, _ in cut(tokens, lambda token: isinstance(token, str) and token in LOOSE - {mark}):
                 sides = [bare(side) for _, side, _ in cut(part, lambda token: token == mark)]
                 if mark in part and len(sides) == 2 and sides[0] == sides[1]:
                     return f"the same on both sides of {mark}"
@@ -155,13 +154,14 @@ def uses(text, name):
 
 
 def told(text, name, part, place, seen=frozenset()):
-    """Whether a term speaks of a field of a variable, or of the variable itself where `part` is None, through the definitions that it hands it to."""
+    """Whether a term speaks of a field of a variable, or of the variable itself where `part` is None, itself or by the definitions that it
+    hands the variable to. What a definition of the kit does with it is not looked at."""
     if says_nothing(text):
         return False
     for kind, what, *index in uses(text, name):
         if kind == "field" and part in (None, what):
             return True
-        if kind == "whole" and (what == "≡" or part is None and tokens_but(text, name)):
+        if kind == "whole" and (what == "≡" or part is None and bare(tree(text)) != name):
             return True
         if kind == "argument":
             known = definition(what, place)
@@ -174,7 +174,3 @@ def told(text, name, part, place, seen=frozenset()):
                 return True
     return False
 
-
-def tokens_but(text, name):
-    """Whether a term holds more than a variable."""
-    return bare(tree(text)) != name
