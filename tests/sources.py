@@ -11,6 +11,8 @@ ROOT = pathlib.Path(__file__).resolve().parent.parent
 CRATES = ROOT / "crates"
 
 NAME = r'(?:«[^»]*»|[^\s(){}.;,@"«»]+)'
+# What a word stands between, so that it is not part of a name.
+WORD_START, WORD_END = r'(?<![^\s(){}.;,@"«»])', r'(?![^\s(){}.;,@"«»])'
 PATH = re.compile(rf"{NAME}(?:\.{NAME})*")
 # A text in quotes, a comment to the line's end, the start of a nested one, or anything up to the next of them.
 ANTT_PART = re.compile(rf'"(?:\\.|[^"\\])*"|--[^\n]*|\{{-|(?:(?!--){NAME}|[\s()}}.;,@]|\{{(?!-))+|.', re.S)
@@ -132,7 +134,7 @@ class Declaration:
         return {path for path in map(split_path, PATH.findall(self.text)) if path[0] not in bound}
 
 
-HEADER = re.compile(r"(?:(?:pub|unfoldable)\s+)*(use|mod)\s+(.*)", re.S)
+HEADER = re.compile(rf"(?:(?:pub|unfoldable)\s+)*(use|mod){WORD_END}\s*(.*)", re.S)
 SIGNATURE = re.compile(rf"((?:(?:unfoldable|abbrev|axiom|pub)\s+)*)(data\s+|record\s+|ruleset\s+)?({NAME})(.*)", re.S)
 BLOCK = re.compile(r"module\s.*\swhere|(?:(?:unfoldable|abbrev)\s+)*mutual", re.S)
 
@@ -210,7 +212,7 @@ def read_declaration(module, line, item):
     found = SIGNATURE.fullmatch(item)
     rest = found[4].lstrip() if found else ""
     kind = (found[2] or "").strip() if found else ""
-    signature = found and (kind or re.match(r"(?:\{[^{}]*\}\s*)?:(?!\S)", rest))
+    signature = found and (kind or re.match(rf"(?:\{{[^{{}}]*\}}\s*)?:{WORD_END}", rest))
     if signature:
         marks = frozenset(found[1].split())
         kind = kind or "signature"
