@@ -167,21 +167,25 @@ points-trans b c B p v q w pL vL hB e f =
 
 -- ---- one cycle of a safe pair: the follower drives w, the one ahead a
 
+-- "p + 2v + w + S(b, v + w) below p of the carrier ahead + S(B, its v)", with u the speed v + w
+pub rests-is : (b B p v : ℕ) (w : ℤ) (pL vL u : ℕ) → pos v +ℤ w ≡ pos u
+    → restsBehind b B p v w pL vL ≡ ltb (p + v + u + stoppingDistance b u) (pL + stoppingDistance B vL)
+unfolding restsBehind
+rests-is b B p v w pL vL u e = rw (position-is v w u e p, speed-is v w u e) refl
+
 tested : (b B p v : ℕ) (w : ℤ) (pL vL u : ℕ) → pos v +ℤ w ≡ pos u
     → restsBehind b B p v w pL vL ≡ true → p + v + u + stoppingDistance b u < pL + stoppingDistance B vL
-unfolding restsBehind
-tested b B p v w pL vL u e t = ltb-true _ _ (rw (position-is v w u e p, speed-is v w u e) at t)
+tested b B p v w pL vL u e t = ltb-true _ _ (sym (rests-is b B p v w pL vL u e) ∙ t)
 
 -- a wish at or below guaranteed braking passes the test of a carrier that is safe behind
 pub braking-passes : (b B p v : ℕ) (w : ℤ) (pL vL : ℕ) → 1 ≤ b → b ≤ B → safeBehind b B p v pL vL ≡ true
     → braking B v ≤ℤ w → w ≤ℤ braking b v → restsBehind b B p v w pL vL ≡ true
-unfolding restsBehind
 braking-passes b B p v w pL vL hb hB s lo hi =
     let d = driven B v w lo in
     let h = safe-says b B p v pL vL s in
-    rw (position-is v w (d .0) (d .1) p, speed-is v w (d .0) (d .1))
-    (lt-ltb (p + v + d .0 + stoppingDistance b (d .0)) (pL + stoppingDistance B vL)
-    (omega (arith, h .stops-below, braking-gains b v (d .0) hb (slower b v w (d .0) (d .1) hi))))
+    rests-is b B p v w pL vL (d .0) (d .1)
+    ∙ lt-ltb (p + v + d .0 + stoppingDistance b (d .0)) (pL + stoppingDistance B vL)
+    (omega (arith, h .stops-below, braking-gains b v (d .0) hb (slower b v w (d .0) (d .1) hi)))
 
 module _ (b B p v : ℕ) (w : ℤ) (pL vL : ℕ) (a : ℤ) (hb : 1 ≤ b) (hB : b ≤ B)
     (safe : safeBehind b B p v pL vL ≡ true) (test : restsBehind b B p v w pL vL ≡ true)

@@ -1,19 +1,22 @@
 -- What the crates above use of units, of trimming and of readings, with nothing to unfold. Assumes nothing.
 use mathlib.Core.Path.{_≡_, refl, ap, _∙_}
-use mathlib.Core.Bool.{false}
-use Prim.Native.Nat.{ℕ, _+_, _-_, _^_, _≤_, _<_, min}
+use mathlib.Core.Bool.{Bool, true, false, not, _&&_, _||_, cond}
+use Prim.Native.Nat.{ℕ, _+_, _-_, _*_, _^_, _≤_, _<_, min}
 use native.Mathlib.Nat.{min-le-right}
 use native.Mathlib.Omega.{arith}
-use lib.Dec.{lit≤}
+use lib.Dec.{leb, eqb, lit≤}
 use lib.IntN.{ℤ, pos, negℤ, _+ℤ_, _-ℤ_}
 use lib.Signed.{_≤ℤ_}
+use lib.Ieee.{nan, inf, fin, up, down, le}
 use lib.Ieee.Exact.{HasValue}
-use Rattle.wish.specs.Units.{unitsOf}
+use Rattle.wish.specs.Rounding.{roundedTimes}
+use Rattle.wish.specs.Units.{liesWithin, unitsWithin, accelerationUnits, targetUnits, unitsOf}
 use Rattle.wish.specs.Trimming.{smallerOf, trimmedInto, trimmedTo}
 use Rattle.wish.specs.Reading.{readingOf}
-use Rattle.wish.specs.declared.Converted.the-variants.{Units}
+use Rattle.wish.specs.declared.Converted.the-variants.{Units, Outside}
 use Rattle.wish.specs.declared.Wish
-use Rattle.wish.specs.declared.Wish.the-variants.{Hold}
+use Rattle.wish.specs.declared.Wish.the-variants.{Acceleration, TargetSpeed, Hold}
+use Rattle.wish.proofs.Values.{within-size, within-size-from-0}
 use Rattle.wish.proofs.Trimming.{smaller-pos, smaller-left, smaller-right, not-above-right, below-both, neg-le-pos, not-below-low, inside-kept, above-high, below-low, ends-crossed, pos-minus, between, sum-between}
 use Rattle.wish.proofs.Quotients.{doubleOf-exact}
 
@@ -26,6 +29,30 @@ whole-units u v = refl
 pub hold-units : (v : ℕ) → unitsOf Hold v ≡ Units (pos 0)
 unfolding unitsOf
 hold-units v = refl
+
+-- ---- which floats have units: ±m * 2 ^ e is m * up e / down e in size
+
+-- "An acceleration must lie from −16 to 16, .. ends included"
+pub acceleration-range : (s : Bool) (m : ℕ) (e : ℤ) (v : ℕ)
+    → unitsOf (Acceleration (fin s m e)) v ≡ cond (leb (m * up e) (16 * down e)) (Units (roundedTimes 16 (fin s m e))) Outside
+unfolding unitsOf accelerationUnits unitsWithin
+acceleration-range s m e v = ap (λ (t : Bool). cond t (Units (roundedTimes 16 (fin s m e))) Outside) (within-size 4 s m e)
+
+-- "a speed from 0 to 64, ends included; .. negative zero counts as zero"
+pub target-range : (s : Bool) (m : ℕ) (e : ℤ) (v : ℕ)
+    → unitsOf (TargetSpeed (fin s m e)) v ≡ cond ((not s || eqb (m * up e) 0) && leb (m * up e) (64 * down e)) (Units (roundedTimes 128 (fin s m e) -ℤ pos v)) Outside
+unfolding unitsOf targetUnits unitsWithin
+target-range s m e v = ap (λ (t : Bool). cond t (Units (roundedTimes 128 (fin s m e) -ℤ pos v)) Outside) (within-size-from-0 6 s m e)
+
+-- "not-a-number and infinities are outside"
+pub no-number-outside : (v : ℕ) → (unitsOf (Acceleration nan) v ≡ Outside) × (unitsOf (TargetSpeed nan) v ≡ Outside)
+unfolding unitsOf accelerationUnits targetUnits unitsWithin liesWithin le
+no-number-outside v = (refl, refl)
+
+pub infinity-outside : (s : Bool) (v : ℕ) → (unitsOf (Acceleration (inf s)) v ≡ Outside) × (unitsOf (TargetSpeed (inf s)) v ≡ Outside)
+unfolding unitsOf accelerationUnits targetUnits unitsWithin liesWithin le
+infinity-outside false v = (refl, refl)
+infinity-outside true v = (refl, refl)
 
 -- ---- trimming
 

@@ -1,14 +1,15 @@
 -- The exact values of floats: `HasValue x s a c` says that x is finite, has the sign s and is a / c in size. What a range says of a value's size, and how a value is rounded. Assumes nothing.
 use mathlib.Core.Path.{_≡_, refl, sym, ap, ap₂, _∙_, subst}
-use mathlib.Core.Logic.{inl, inr}
+use mathlib.Core.Logic.{inl, inr, by-cases}
 use Prim.Native.Nat.{ℕ, zero, suc, _+_, _*_, _^_, _≤_, _<_}
 use native.Mathlib.Nat.{le-trans, le-of-eq, le-of-lt, le-of-suc-le-suc, lt-of-lt-of-le, lt-of-not-le, lt-irrefl, eq-or-lt-of-le, mul-one, one-mul, mul-right-comm, mul-le-mul-right, le-of-mul-le-mul-right, eq-of-mul-eq-mul-right, mul-pos, zero-lt-suc}
+use native.Mathlib.Decide.{decLe, ℕ-discrete}
 use native.Mathlib.Omega.{arith}
 use mathlib.Core.Bool.{Bool, true, false, not, _&&_, _||_}
-use borrow.Author.Tests.{lt-ltb, eq-eqb}
-use lib.IntN.{pos}
+use borrow.Author.Tests.{lt-ltb, eq-eqb, ne-eqb, le-leb, lt-leb}
+use lib.IntN.{ℤ, pos}
 use lib.Signed.{mag}
-use lib.Dec.{T, ltb, eqb, ltb→lt, eqb→eq}
+use lib.Dec.{T, leb, ltb, eqb, ltb→lt, eqb→eq}
 use lib.Pow.{pow-pos, pow-lt}
 use lib.Ieee.{Float, nan, inf, fin, up, down, le, below, level, isNan}
 use lib.Ieee.Fits.{down-pos, and-l, and-r}
@@ -102,6 +103,14 @@ range s a i k low x e =
     let both : T (l && h) = holds e in
     between s a i k low x (and-l l h both) (and-r l h both)
 
+-- a test that passes for what is at most b, and for nothing else
+by-size : (a b : ℕ) (t : Bool) → (a ≤ b → t ≡ true) → (t ≡ true → a ≤ b) → t ≡ leb a b
+by-size a b t h k = by-cases (decLe a b) (λ (l : a ≤ b). h l ∙ sym (le-leb a b l)) (λ (n : a ≤ b → ⊥). go t refl n)
+  where
+    go : (u : Bool) → t ≡ u → (a ≤ b → ⊥) → t ≡ leb a b
+    go true e n = absurd (n (k e))
+    go false e n = e ∙ sym (lt-leb a b (lt-of-not-le n))
+
 -- and back, for the range from -2 ^ k to 2 ^ k
 or-right : (a b : Bool) → b ≡ true → a || b ≡ true
 or-right true b e = refl
@@ -128,6 +137,33 @@ in-range k (fin s m e) h =
     both-ends s (1 * 2 ^ k * down e) (m * up e * 1)
     (mul-pos (mul-pos (zero-lt-suc 0) (pow-pos k)) (down-pos e))
     (le-trans (le-of-eq (mul-one (m * up e))) (le-trans h (le-of-eq (ap (λ (y : ℕ). y * down e) (sym (one-mul (2 ^ k)))))))
+
+-- so the range from -2 ^ k to 2 ^ k is a bound on the size,
+pub within-size : (k : ℕ) (s : Bool) (m : ℕ) (e : ℤ) → liesWithin (fin true 1 (pos k)) (fin false 1 (pos k)) (fin s m e) ≡ leb (m * up e) (2 ^ k * down e)
+within-size k s m e = by-size (m * up e) (2 ^ k * down e) _ (in-range k (fin s m e)) (range true 1 k k (le-of-eq (one-mul (2 ^ k))) (fin s m e))
+
+negative-from-0 : (a x h b : ℕ) → a ≡ 0 → 0 < h
+    → (below false a true x || level false a true x) && (below true x false h || level true x false h) ≡ eqb x 0 && leb x b
+negative-from-0 a x h b e H =
+    by-cases (ℕ-discrete x 0)
+    (λ (z : x ≡ 0). rw (e, z, lt-ltb 0 (0 + h) (omega arith), le-leb 0 b (omega arith)) refl)
+    (λ (n : x ≡ 0 → ⊥). rw (e, ne-eqb 0 x (λ p. n (sym p)), ne-eqb x 0 n) refl)
+
+-- and so is that from 0 to 2 ^ k, but for negative numbers, of which -0 alone lies in it
+pub within-size-from-0 : (k : ℕ) (s : Bool) (m : ℕ) (e : ℤ)
+    → liesWithin (fin false 0 (pos 0)) (fin false 1 (pos k)) (fin s m e) ≡ (not s || eqb (m * up e) 0) && leb (m * up e) (2 ^ k * down e)
+unfolding liesWithin le
+within-size-from-0 k false m e =
+    by-size (m * up e) (2 ^ k * down e) _
+    (λ (h : m * up e ≤ 2 ^ k * down e).
+    ap₂ (λ (x y : Bool). x && y)
+    (le-or (0 * 2 ^ 0 * down e) (m * up e * 1) _ (omega arith) (λ p. ap (λ (x : Bool). x && true) (eq-eqb _ _ p)))
+    (le-or (m * up e * 1) (1 * 2 ^ k * down e) _ (omega arith) (λ p. ap (λ (x : Bool). x && true) (eq-eqb _ _ p))))
+    (range false 0 0 k (omega arith) (fin false m e))
+within-size-from-0 k true m e =
+    negative-from-0 (0 * 2 ^ 0 * down e) (m * up e * 1) (1 * 2 ^ k * down e) (2 ^ k * down e) (omega arith)
+    (mul-pos (mul-pos (zero-lt-suc 0) (pow-pos k)) (down-pos e))
+    ∙ ap (λ (x : ℕ). eqb x 0 && leb x (2 ^ k * down e)) (mul-one (m * up e))
 
 -- ---- rounding a value
 -- k times a float that equals ±a / c, rounded
