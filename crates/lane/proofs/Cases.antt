@@ -70,22 +70,14 @@ unfolding value table
 gap-7-safe = cc (marked-cases 7)
 
 -- the example's cycle, with carrier 7 standing at 1020: carrier 8's wish is replaced, and it comes to rest
-pub at-1020-replaced : callAnswer exampleCycle (exampleLane 1020) .word ≡ 2
+pub at-1020 : (callAnswer exampleCycle (exampleLane 1020) .word ≡ 2) × (callState exampleCycle (exampleLane 1020) .carriers ≡ carrier 7 1020 0 ∷ carrier 8 764 0 ∷ [])
 unfolding value table
-at-1020-replaced = cc (marked-cases 8)
-
-pub at-1020-carriers : callState exampleCycle (exampleLane 1020) .carriers ≡ carrier 7 1020 0 ∷ carrier 8 764 0 ∷ []
-unfolding value table
-at-1020-carriers = cc (marked-cases 8)
+at-1020 = (cc (marked-cases 8), cc (marked-cases 8))
 
 -- at 1021 it stands
-pub at-1021-stands : callAnswer exampleCycle (exampleLane 1021) .word ≡ 0
+pub at-1021 : (callAnswer exampleCycle (exampleLane 1021) .word ≡ 0) × (callState exampleCycle (exampleLane 1021) .carriers ≡ carrier 7 1021 0 ∷ carrier 8 860 96 ∷ [])
 unfolding value table
-at-1021-stands = cc (marked-cases 9)
-
-pub at-1021-carriers : callState exampleCycle (exampleLane 1021) .carriers ≡ carrier 7 1021 0 ∷ carrier 8 860 96 ∷ []
-unfolding value table
-at-1021-carriers = cc (marked-cases 9)
+at-1021 = (cc (marked-cases 9), cc (marked-cases 9))
 
 -- and last all the accelerations, whose rows wish holds by name
 pub accelerations-last : drop 10 table ≡ map accelerationEntry accelerationCases
