@@ -16,7 +16,7 @@ use Rattle.lane.specs.Listing.{laneText}
 use Rattle.lane.specs.Call.{Call, start-call, enter-call, leave-call, cycle-call, read-call, text-call, Answer, callNo, callAnswer}
 use Rattle.lane.proofs.Laws.{text-answers, text-short}
 use Rattle.lane.proofs.CallLaws.{answer-number, two-digits}
-use Rattle.lane.proofs.Answerable.{small}
+use Rattle.lane.proofs.Answerable.{place-small, gone-small}
 use Rattle.console.specs.Limits.{answerSpace}
 use Rattle.console.specs.Output.{refusal, acceptedText, printed}
 use Rattle.console.proofs.Printing.{short-line}
@@ -32,7 +32,7 @@ accepted-fits (enter-call c) l z =
     omega (
       arith,
       length-append (ascii "ok=enter\n") (line (ascii "place=") (decimal place)),
-      short-line (ascii "place=") place (omega arith) (omega (arith, small (enter-call c) l .place)),
+      short-line (ascii "place=") place (omega arith) (omega (arith, place-small l c z)),
     )
 accepted-fits (leave-call number) l z = omega arith
 accepted-fits (cycle-call count ws) l z =
@@ -45,7 +45,7 @@ accepted-fits (cycle-call count ws) l z =
       length-append (ascii "ok=cycle\n" ++ over) gone,
       length-line (ascii "over=") (hexadecimal 16 (a .word)),
       length-hexadecimal 16 (a .word),
-      short-line (ascii "gone=") (a .gone) (omega arith) (omega (arith, small (cycle-call count ws) l .gone)),
+      short-line (ascii "gone=") (a .gone) (omega arith) (omega (arith, gone-small (stateOf l) count ws z)),
     )
 accepted-fits (read-call number) l z = omega arith
 accepted-fits (text-call buffer) l z =

@@ -1,15 +1,16 @@
 -- Every call has an answer on every lane, and a lane to leave: no contract of a call is empty, so that no list of calls is without a history.
 use mathlib.Core.Path.{_≡_, refl, sym, ap, _∙_, subst}
-use mathlib.Core.Bool.{Bool, true, false, true≢false}
-use mathlib.Core.List.{[]}
+use mathlib.Core.Bool.{Bool, true, false, cond, true≢false}
+use mathlib.Core.List.{List, []}
 use Prim.Native.Nat.{ℕ, _≤_}
 use native.Mathlib.Omega.{arith}
 use borrow.Author.Tests.{eqb-true, eqb-false}
 use lib.Dec.{eqb}
 use lib.Ieee.Exact.{HasValue}
 use lib.ListN.{length}
-use Rattle.wish.specs.Reading.{readingOf}
+use Rattle.wish.specs.declared.Wish.{Wish}
 use Rattle.wish.proofs.Laws.{reading-exact}
+use Rattle.lane.specs.declared.Carrier.{Carrier}
 use Rattle.lane.specs.declared.Cycled.{Cycled}
 use Rattle.lane.specs.declared.Entered.{Entered}
 use Rattle.lane.specs.declared.Listed.{Listed}
@@ -17,9 +18,8 @@ use Rattle.lane.specs.declared.ReadOut.{ReadOut}
 use Rattle.lane.specs.Limits.{mostCarriers}
 use Rattle.lane.specs.State.{State}
 use Rattle.lane.specs.Layout.{Words, stateOf}
-use Rattle.lane.specs.Calls.{none, begunState, walk, enteredState, leftState, namedNo, namedCarrier, namedReading, cycleWord, cycleReplaced, cycleGone, cycledState}
-use Rattle.lane.specs.Listing.{laneText}
-use Rattle.lane.specs.Call.{Call, start-call, enter-call, leave-call, cycle-call, read-call, text-call, Answer, bare, meaning, callNo, acceptedState, lentTo, acceptedAnswer, callAnswer, Gives, entered, cycled, readOut, listed}
+use Rattle.lane.specs.Calls.{none, begunState, enterNo, enteredState, leftState, namedNo, namedCarrier, cycleNo, cycleGone, cycledState}
+use Rattle.lane.specs.Call.{Call, start-call, enter-call, leave-call, cycle-call, read-call, text-call, Answer, bare, placed, run, shown, told, meaning, callNo, acceptedState, lentTo, acceptedAnswer, callAnswer, Gives, entered, cycled, readOut, listed}
 use Rattle.lane.proofs.checks.Records.{wordsFor, words-for}
 use Rattle.lane.proofs.checks.Soundness.{fit-at, fit-narrow}
 use Rattle.lane.proofs.calls.Answers.{refused-changes-nothing, refused-answers, accepted-changes, accepted-answers, answer-number, counted-most, enter-tells, walk-le, named-tells, ready-tells, cycle-tells}
@@ -72,55 +72,54 @@ Returned (cycle-call count ws) a = (r : Cycled) × (a ≡ cycled r)
 Returned (read-call number) a = (r : ReadOut) × (a ≡ readOut r)
 Returned (text-call buffer) a = (r : Listed) × (a ≡ listed r (a .bytes))
 
-accepted-returned : (x : Call) (s : State) → Returned x (acceptedAnswer x s)
-accepted-returned (start-call road first) s = (0, refl)
-accepted-returned (enter-call c) s = (record { no = 0; place = walk (c .position) (s .carriers) }, refl)
-accepted-returned (leave-call number) s = (0, refl)
-accepted-returned (cycle-call count ws) s =
-    (record { no = 0; word = cycleWord s ws; replaced = cycleReplaced s ws; gone = cycleGone s ws }, refl)
-accepted-returned (read-call number) s = (record { no = 0; reading = namedReading s number }, refl)
-accepted-returned (text-call buffer) s = (record { no = 0; length = length (laneText s) }, refl)
-
-refused-returned : (x : Call) (n : ℕ) → Returned x (bare n (lentTo x))
-refused-returned (start-call road first) n = (n, refl)
-refused-returned (enter-call c) n = (record { no = n; place = 0 }, refl)
-refused-returned (leave-call number) n = (n, refl)
-refused-returned (cycle-call count ws) n = (record { no = n; word = 0; replaced = 0; gone = 0 }, refl)
-refused-returned (read-call number) n = (record { no = n; reading = readingOf 0 0 }, refl)
-refused-returned (text-call buffer) n = (record { no = n; length = 0 }, refl)
+-- what keeps the accepted answer and the refused one as they are keeps the call's
+kept-by : (x : Call) (s : State) (form : Answer → Answer) → acceptedAnswer x s ≡ form (acceptedAnswer x s)
+    → bare (callNo x s) (lentTo x) ≡ form (bare (callNo x s) (lentTo x)) → callAnswer x s ≡ form (callAnswer x s)
+unfolding callAnswer
+kept-by x s form p q = by-test (eqb (callNo x s) 0)
+  where
+    by-test : (t : Bool) → cond t (acceptedAnswer x s) (bare (callNo x s) (lentTo x)) ≡ form (cond t (acceptedAnswer x s) (bare (callNo x s) (lentTo x)))
+    by-test true = p
+    by-test false = q
 
 pub returned : (x : Call) (s : State) → Returned x (callAnswer x s)
-returned x s = by-test (eqb (callNo x s) 0) refl
-  where
-    by-test : (t : Bool) → eqb (callNo x s) 0 ≡ t → Returned x (callAnswer x s)
-    by-test true e = subst (Returned x) (sym (accepted-answers x s (eqb-true _ 0 e))) (accepted-returned x s)
-    by-test false e = subst (Returned x) (sym (refused-answers x s (eqb-false _ 0 e))) (refused-returned x (callNo x s))
+returned (start-call road first) s =
+    let x = start-call road first in
+    (callAnswer x s .number, kept-by x s (λ a. bare (a .number) []) refl refl)
+returned (enter-call c) s =
+    let x = enter-call c in
+    let a = callAnswer x s in
+    (record { no = a .number; place = a .place }, kept-by x s (λ a. placed (a .number) (a .place)) refl refl)
+returned (leave-call number) s =
+    let x = leave-call number in
+    (callAnswer x s .number, kept-by x s (λ a. bare (a .number) []) refl refl)
+returned (cycle-call count ws) s =
+    let x = cycle-call count ws in
+    let a = callAnswer x s in (
+      record { no = a .number; word = a .word; replaced = a .replaced; gone = a .gone },
+      kept-by x s (λ a. run (a .number) (a .word) (a .replaced) (a .gone)) refl refl,
+    )
+returned (read-call number) s =
+    let x = read-call number in
+    let a = callAnswer x s in
+    (record { no = a .number; reading = a .reading }, kept-by x s (λ a. shown (a .number) (a .reading)) refl refl)
+returned (text-call buffer) s =
+    let x = text-call buffer in
+    let a = callAnswer x s in
+    (record { no = a .number; length = a .long }, kept-by x s (λ a. told (a .number) (a .long) (a .bytes)) refl refl)
 
--- a place and a number gone are at most 64
-pub record Small (a : Answer) : Type 0 where
-  pub place : a .place ≤ mostCarriers
-  pub gone : a .gone ≤ mostCarriers
+-- the place of an entry and the number gone in a cycle are at most 64
+pub place-small : (l : Words) (c : Carrier) → enterNo (stateOf l) c ≡ 0 → callAnswer (enter-call c) (stateOf l) .place ≤ mostCarriers
+place-small l c z =
+    let s = stateOf l in
+    rw (ap (λ (a : Answer). a .place) (accepted-answers (enter-call c) s z))
+    (omega (arith, walk-le (c .position) (s .carriers), counted-most l, enter-tells s c z .sound .count))
 
-accepted-small : (x : Call) (l : Words) → callNo x (stateOf l) ≡ 0 → Small (acceptedAnswer x (stateOf l))
+pub gone-small : (s : State) (count : ℕ) (ws : List Wish) → cycleNo s count ws ≡ 0 → callAnswer (cycle-call count ws) s .gone ≤ mostCarriers
 unfolding cycleGone
-accepted-small (start-call road first) l z = record { place = omega arith; gone = omega arith }
-accepted-small (enter-call c) l z =
-    let s = stateOf l in
-    record { place = omega (arith, walk-le (c .position) (s .carriers), counted-most l, enter-tells s c z .sound .count); gone = omega arith }
-accepted-small (leave-call number) l z = record { place = omega arith; gone = omega arith }
-accepted-small (cycle-call count ws) l z =
-    let s = stateOf l in
-    record { place = omega arith; gone = omega (arith, ready-tells s count (cycle-tells s count ws z .0) .sound .count) }
-accepted-small (read-call number) l z = record { place = omega arith; gone = omega arith }
-accepted-small (text-call buffer) l z = record { place = omega arith; gone = omega arith }
-
-pub small : (x : Call) (l : Words) → Small (callAnswer x (stateOf l))
-small x l = by-test (eqb (callNo x (stateOf l)) 0) refl
-  where
-    by-test : (t : Bool) → eqb (callNo x (stateOf l)) 0 ≡ t → Small (callAnswer x (stateOf l))
-    by-test true e = let z = eqb-true _ 0 e in subst Small (sym (accepted-answers x (stateOf l) z)) (accepted-small x l z)
-    by-test false e =
-        subst Small (sym (refused-answers x (stateOf l) (eqb-false _ 0 e))) (record { place = omega arith; gone = omega arith })
+gone-small s count ws z =
+    rw (ap (λ (a : Answer). a .gone) (accepted-answers (cycle-call count ws) s z))
+    (omega (arith, ready-tells s count (cycle-tells s count ws z .0) .sound .count))
 
 -- a reading that is answered is exact
 pub read-exact : (s : State) (number : ℕ) → callAnswer (read-call number) s .number ≡ 0
