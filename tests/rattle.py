@@ -4,7 +4,7 @@ import pathlib
 import re
 from dataclasses import dataclass
 
-from sources import CRATES, imports_in, rattle_code, split_outside
+from sources import CRATES, InCrate, imports_in, rattle_code, split_outside
 
 FUNCTION = re.compile(r'(?<![\w#])(pub\b(?:\s*\([^()]*\))?\s+)?(?:(?:const|unsafe|async|extern(?:\s*"[^"]*")?)\s+)*fn\s+(\w+)\s*')
 ATTRIBUTES = re.compile(r"(?:#\s*\[[^\[\]]*\]\s*)+$")
@@ -38,7 +38,7 @@ class Function:
 
 
 @dataclass(eq=False)
-class Source:
+class Source(InCrate):
     path: pathlib.Path
     code: str
     imports: list
@@ -49,14 +49,6 @@ class Source:
     names: dict
     # a file of Rattle has no antt modules below it
     children: tuple = ()
-
-    @property
-    def where(self):
-        return self.path.relative_to(CRATES).as_posix()
-
-    @property
-    def crate(self):
-        return self.path.relative_to(CRATES).parts[0]
 
 
 def parameters(text, own):

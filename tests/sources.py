@@ -167,16 +167,8 @@ def items(code):
         yield current[0], "\n".join(current[1]).strip()
 
 
-@dataclass(eq=False)
-class Module:
-    """An antt file."""
-
-    path: pathlib.Path
-    code: str
-    imports: list = field(default_factory=list)
-    children: list = field(default_factory=list)
-    public_children: list = field(default_factory=list)
-    declarations: list = field(default_factory=list)
+class InCrate:
+    """A file, by its place below `crates`."""
 
     @property
     def where(self):
@@ -185,6 +177,18 @@ class Module:
     @property
     def crate(self):
         return self.path.relative_to(CRATES).parts[0]
+
+
+@dataclass(eq=False)
+class Module(InCrate):
+    """An antt file."""
+
+    path: pathlib.Path
+    code: str
+    imports: list = field(default_factory=list)
+    children: list = field(default_factory=list)
+    public_children: list = field(default_factory=list)
+    declarations: list = field(default_factory=list)
 
     def declared(self, name):
         """The declaration of that name. A name that a `use` line brings is none, whatever a `where` block calls so."""

@@ -2,18 +2,15 @@
 -- program.
 use mathlib.Core.Path.{_≡_, refl, sym, _∙_}
 use mathlib.Core.Bool.{Bool, true, false, cond, _||_, true≢false}
-use mathlib.Core.List.{List, [], _++_}
-use Prim.Native.Nat.{ℕ, zero, suc, _+_, _≤_, _<_}
-use native.Mathlib.Nat.{le-refl, add-zero}
+use mathlib.Core.List.{List, []}
+use Prim.Native.Nat.{ℕ, zero, suc, _+_, _≤_}
 use native.Mathlib.Omega.{arith}
 use borrow.Author.Tests.{leb-true, ltb-true, ltb-false}
-use denote.Ref.{now}
 use lib.Dec.{eqb, leb, ltb}
 use lib.ListN.{length, take, drop, replicate, length-replicate}
 use Rattle.text.specs.Lines.{written, placeAfter}
-use Rattle.text.proofs.Laws.{place-fits}
 use Rattle.lane.specs.Layout.{Words, stateOf, emptyWords}
-use Rattle.lane.specs.Call.{Call, Answer, meaning, callAnswer, Gives}
+use Rattle.lane.specs.Call.{Call, meaning, callAnswer}
 use Rattle.lane.proofs.Answerable.{gives-some}
 use Rattle.history.specs.History.{Event}
 use Rattle.history.proofs.Answered.{lent}

@@ -1,39 +1,29 @@
 -- Calls of `step`, each as its own contract says: one, and many in turn.
-use mathlib.Core.Path.{_≡_, refl, sym, ap, ap₂, _∙_}
-use mathlib.Core.Bool.{Bool, true, false, cond, true≢false}
-use mathlib.Core.List.{List, [], _++_, append-nil}
-use Prim.Native.Nat.{ℕ, zero, suc, _+_, _≤_, _<_}
-use native.Mathlib.Nat.{le-refl, zero-add, add-zero}
+use mathlib.Core.Path.{_≡_, sym, ap, _∙_}
+use mathlib.Core.Bool.{true, false, true≢false}
+use mathlib.Core.List.{List, [], _++_}
+use Prim.Native.Nat.{ℕ, suc, _+_, _≤_, _<_}
+use native.Mathlib.Nat.{zero-add}
 use native.Mathlib.Decide.{decLt}
 use native.Mathlib.Omega.{arith}
-use borrow.Author.Tests.{lt-ltb}
 use contract.Lifetimes.{Lfts}
 use denote.Ref.{RefT, now, at-last}
-use lib.Dec.{eqb, leb}
 use lib.ListN.{length, take, drop, length-drop}
-use lib.Seq.{drop-drop, take-all, length-take-le}
+use lib.Seq.{drop-drop}
 use Rattle.text.specs.Ascii.{ascii}
 use Rattle.text.specs.Fields.{lineLength, lineValue}
-use Rattle.text.specs.Numbers.{decimal}
-use Rattle.text.proofs.Laws.{length-line, place-fits, written-up-to, written-nothing}
+use Rattle.text.proofs.Laws.{written-up-to}
 use Rattle.lane.specs.State.{State}
 use Rattle.lane.specs.Layout.{Words, stateOf}
-use Rattle.lane.specs.Rules.{broken}
-use Rattle.lane.specs.Listing.{laneText}
-use Rattle.lane.specs.Call.{Call, callAnswer}
-use Rattle.lane.proofs.empty.Reads as empty-reads
+use Rattle.lane.specs.Call.{Call}
 use Rattle.history.specs.History.{Event}
 use Rattle.console.specs.declared.Stepped.{Stepped}
-use Rattle.console.specs.Limits.{longestInput, answerSpace}
-use Rattle.console.specs.Blocks.{Parsed, parsed, malformed, past, afterLine, showCall, kindOf, linesOf, blockIn}
-use Rattle.console.specs.Program.{Step, halted, withoutRoom, ran, stepOf, stepInto, StepGives, RunGives, outputFrom, tooLong, lengthAnswer, outputOf}
-use Rattle.console.specs.Output.{refusal, printed}
+use Rattle.console.specs.Limits.{answerSpace}
+use Rattle.console.specs.Blocks.{Parsed, parsed, malformed, past, afterLine, kindOf, linesOf, blockIn}
+use Rattle.console.specs.Program.{Step, ran, stepOf, StepGives}
 use Rattle.console.specs.History.{blockRun, eventsOf}
-use Rattle.console.proofs.Printing.{short-line}
-use Rattle.console.proofs.Showing.{show-prints}
-use Rattle.console.proofs.Steps.{too-short, step-into, at-end, at-block}
+use Rattle.console.proofs.Steps.{step-into, at-end, at-block}
 use Rattle.console.proofs.step.Reads as step-reads
-use Rattle.console.proofs.refuse_long.Reads as long-reads
 
 -- what the contract of `step` says of a call on a lane with these words before it and others after it, on the lent input and a lent buffer
 -- that is long enough, and of the bytes left there

@@ -5,7 +5,7 @@ use mathlib.Core.List.{List, [], _∷_, _++_}
 use Prim.Native.Nat.{ℕ, zero, suc, _-_, _≤_, _<_}
 use native.Mathlib.Omega.{arith}
 use borrow.Author.Tests.{lt-ltb}
-use lib.Dec.{eqb, leb, ltb}
+use lib.Dec.{eqb, leb}
 use lib.ListN.{length, drop, replicate, length-append, length-replicate}
 use Rattle.text.specs.Ascii.{ascii}
 use Rattle.text.specs.Fields.{lineLength, lineValue, fieldIn, isNumber, valueIn}

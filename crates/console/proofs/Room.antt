@@ -1,7 +1,7 @@
 -- Every answer fits into a buffer of 4,096 bytes.
-use mathlib.Core.Path.{_≡_, refl, ap, _∙_}
+use mathlib.Core.Path.{_≡_, refl, ap}
 use mathlib.Core.Bool.{Bool, true, false, cond}
-use mathlib.Core.List.{List, _++_}
+use mathlib.Core.List.{_++_}
 use Prim.Native.Nat.{ℕ, _≤_, _<_}
 use native.Mathlib.Omega.{arith}
 use borrow.Author.Tests.{eqb-true}
@@ -12,7 +12,6 @@ use Rattle.text.specs.Numbers.{decimal, hexadecimal}
 use Rattle.text.specs.Lines.{line}
 use Rattle.text.proofs.Laws.{length-line, length-hexadecimal}
 use Rattle.lane.specs.Layout.{Words, stateOf}
-use Rattle.lane.specs.Listing.{laneText}
 use Rattle.lane.specs.Call.{Call, start-call, enter-call, leave-call, cycle-call, read-call, text-call, Answer, callNo, callAnswer}
 use Rattle.lane.proofs.Laws.{text-answers, text-short}
 use Rattle.lane.proofs.CallLaws.{answer-number, two-digits}

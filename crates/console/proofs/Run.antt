@@ -3,7 +3,7 @@
 use mathlib.Core.Path.{_≡_, refl, sym, ap, ap₂, _∙_}
 use mathlib.Core.Bool.{Bool, true, false, cond, true≢false}
 use mathlib.Core.List.{List, [], _++_, append-nil}
-use Prim.Native.Nat.{ℕ, zero, suc, _+_, _≤_, _<_}
+use Prim.Native.Nat.{ℕ, zero, suc, _≤_, _<_}
 use native.Mathlib.Nat.{le-refl, zero-add, add-zero}
 use native.Mathlib.Decide.{decLt}
 use native.Mathlib.Omega.{arith}
@@ -11,30 +11,27 @@ use borrow.Author.Tests.{lt-ltb}
 use contract.Lifetimes.{Lfts}
 use denote.Ref.{RefT, now, at-last}
 use lib.Dec.{eqb, leb}
-use lib.ListN.{length, take, drop, length-drop}
-use lib.Seq.{drop-drop, take-all, length-take-le}
+use lib.ListN.{length, take, drop}
+use lib.Seq.{take-all, length-take-le}
 use Rattle.text.specs.Ascii.{ascii}
-use Rattle.text.specs.Fields.{lineLength, lineValue}
 use Rattle.text.specs.Numbers.{decimal}
 use Rattle.text.proofs.Laws.{length-line, place-fits, written-up-to, written-nothing}
 use Rattle.lane.specs.State.{State}
 use Rattle.lane.specs.Layout.{Words, stateOf}
 use Rattle.lane.specs.Rules.{broken}
 use Rattle.lane.specs.Listing.{laneText}
-use Rattle.lane.specs.Call.{Call, callAnswer}
+use Rattle.lane.specs.Call.{callAnswer}
 use Rattle.lane.proofs.empty.Reads as empty-reads
 use Rattle.history.specs.History.{Event}
 use Rattle.console.specs.declared.Stepped.{Stepped}
 use Rattle.console.specs.Limits.{longestInput, answerSpace}
-use Rattle.console.specs.Blocks.{Parsed, parsed, malformed, past, afterLine, showCall, kindOf, linesOf, blockIn}
-use Rattle.console.specs.Program.{Step, halted, withoutRoom, ran, stepOf, stepInto, StepGives, RunGives, outputFrom, tooLong, lengthAnswer, outputOf}
+use Rattle.console.specs.Blocks.{Parsed, parsed, malformed, showCall, blockIn}
+use Rattle.console.specs.Program.{halted, withoutRoom, ran, stepOf, stepInto, StepGives, RunGives, outputFrom, tooLong, lengthAnswer, outputOf}
 use Rattle.console.specs.Output.{refusal, printed}
-use Rattle.console.specs.History.{blockRun, eventsOf}
 use Rattle.console.proofs.Printing.{short-line}
 use Rattle.console.proofs.Showing.{show-prints}
 use Rattle.console.proofs.Called.{Ran, last, then, x, gave, wrote, on, stops, nothing, fewer}
-use Rattle.console.proofs.Steps.{too-short, step-into, at-end, at-block}
-use Rattle.console.proofs.step.Reads as step-reads
+use Rattle.console.proofs.Steps.{too-short, step-into}
 use Rattle.console.proofs.refuse_long.Reads as long-reads
 
 -- where the program stops, malformed blocks and short buffers included, the very lane is left

@@ -1,6 +1,6 @@
 -- A RUN OF THE PROGRAM IS A HISTORY: `program-history`, demand 3 of the lanes that any text runs through, and `program-calls`, which calls they
 -- are: the blocks of the text in turn.
-use mathlib.Core.Path.{_≡_, refl, sym, ap, ap₂, _∙_, subst}
+use mathlib.Core.Path.{_≡_, refl, sym, ap, _∙_, subst}
 use mathlib.Core.Bool.{Bool, true, false, cond, true≢false}
 use mathlib.Core.List.{List, [], _∷_, _++_, map, append-nil}
 use Prim.Native.Nat.{ℕ, zero, suc, _≤_, _<_}
@@ -23,7 +23,7 @@ use Rattle.console.specs.Program.{halted, ran, stepOf, tooLong}
 use Rattle.console.specs.History.{blockAt, blockRun, eventsOf, callsWith, callsFrom, callsOf}
 use Rattle.console.proofs.Calls.{step-chain}
 use Rattle.console.proofs.Called.{Called, ranBy, Ran, last, then, x, gave, on, stops, fewer}
-use Rattle.console.proofs.Run.{Measured, Printed, refused, accepted, long-if, short-if, cut-unseen}
+use Rattle.console.proofs.Run.{Printed, refused, accepted, long-if, short-if, cut-unseen}
 
 -- ---- the claims
 

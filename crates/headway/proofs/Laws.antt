@@ -1,6 +1,6 @@
 -- The laws of two carriers: all that the crates above use of `specs/`, whose definitions they leave shut.
 -- b and B are any rates with 1 ≤ b ≤ B; nothing here knows of rows, places or lanes.
-use mathlib.Core.Path.{_≡_, refl, sym, ap, _∙_, subst}
+use mathlib.Core.Path.{_≡_, refl, sym, ap, _∙_}
 use mathlib.Core.Bool.{true, _&&_, and-eq-true-iff}
 use Prim.Native.Nat.{ℕ, zero, suc, _+_, _-_, _*_, _/_, _%_, _^_, _≤_, _<_, min}
 use native.Mathlib.Nat.{add-zero, le-refl, sub-self}

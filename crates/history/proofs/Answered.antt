@@ -13,7 +13,7 @@ use Rattle.lane.specs.Calls.{namedCarrier}
 use Rattle.lane.specs.Call.{Call, start-call, enter-call, leave-call, cycle-call, read-call, text-call, Answer, meaning, callAnswer, Gives}
 use Rattle.lane.proofs.Answerable.{gives-some, returned, read-exact}
 use Rattle.history.specs.Claims.{kindOf}
-use Rattle.history.specs.History.{Event, OfLane, Did, none-yet, then, Typed, AllTyped, HistoryOf}
+use Rattle.history.specs.History.{OfLane, Did, none-yet, then, Typed, AllTyped, HistoryOf}
 
 -- a reference to what is lent
 abbrev pub lent : {X : Type 0} → X → RefT X

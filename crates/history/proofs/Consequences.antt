@@ -5,7 +5,7 @@ use mathlib.Core.List.{List, [], _∷_, _++_}
 use Prim.Native.Nat.{ℕ, _*_, _^_, _≤_, _<_}
 use native.Mathlib.Omega.{arith}
 use borrow.Author.Tests.{le-ltb, ltb-true, ltb-false}
-use lib.Dec.{eqb, ltb, ltb→lt}
+use lib.Dec.{ltb, ltb→lt}
 use lib.ListN.{length, getD}
 use lib.IntN.{pos}
 use lib.Signed.{_<ℤ_, <ℤ-irrefl}
@@ -18,8 +18,8 @@ use Rattle.lane.specs.Calls.{none}
 use Rattle.lane.specs.Call.{Call, cycle-call, Answer, callNo, Kept}
 use Rattle.lane.proofs.CallLaws.{answer-number, kept-not-21}
 use Rattle.history.specs.Book.{Seen, Book, begun, drivenIn, booked}
-use Rattle.history.specs.Claims.{kindOf, carrierAt, placeAt, restsLevelOrCrossed, Claims}
-use Rattle.history.specs.History.{Event, seen, Ran, AllTyped, HistoryOf, isStart, startsLane, Chain, chain-end, chain-next, Throughout, NeverBroken}
+use Rattle.history.specs.Claims.{carrierAt, placeAt, restsLevelOrCrossed, Claims}
+use Rattle.history.specs.History.{Event, seen, Ran, AllTyped, HistoryOf, startsLane, Chain, chain-end, chain-next, Throughout, NeverBroken}
 use Rattle.history.proofs.Bits.{below-power}
 use Rattle.history.proofs.Books.{driven-at-least}
 use Rattle.history.proofs.Lasting.{goes-on}

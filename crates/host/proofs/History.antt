@@ -1,7 +1,7 @@
 -- The theorem over histories, of the functions that a host calls, text steps among them.
-use mathlib.Core.Path.{_≡_, refl, sym, _∙_, subst}
+use mathlib.Core.Path.{_≡_, refl, _∙_, subst}
 use mathlib.Core.Bool.{Bool, true, false, cond}
-use mathlib.Core.List.{List, [], _∷_, _++_}
+use mathlib.Core.List.{List, [], _++_}
 use Prim.Native.Nat.{ℕ}
 use borrow.Author.Tests.{eqb-true, eqb-false}
 use denote.Ref.{now}
@@ -9,7 +9,7 @@ use lib.Dec.{eqb}
 use lib.ListN.{drop}
 use Rattle.lane.specs.declared.Cycled.{Cycled}
 use Rattle.lane.specs.Layout.{Words, stateOf, emptyWords}
-use Rattle.lane.specs.Call.{Call, start-call, enter-call, leave-call, cycle-call, read-call, text-call, Answer, bare, entered, cycled, readOut, listed, Gives}
+use Rattle.lane.specs.Call.{Call, cycle-call, text-call, Answer, cycled, listed, Gives}
 use Rattle.lane.specs.Given.{wishesNo, wishesGiven, GivesWith}
 use Rattle.lane.proofs.Laws.{wishes-enough}
 use Rattle.history.specs.Book.{begun}

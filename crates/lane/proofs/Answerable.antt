@@ -1,5 +1,5 @@
 -- Every call has an answer on every lane, and a lane to leave: no contract of a call is empty, so that no list of calls is without a history.
-use mathlib.Core.Path.{_≡_, refl, sym, ap, _∙_, subst}
+use mathlib.Core.Path.{_≡_, refl, sym, ap, _∙_}
 use mathlib.Core.Bool.{Bool, true, false, cond, true≢false}
 use mathlib.Core.List.{List, []}
 use Prim.Native.Nat.{ℕ, _≤_}
@@ -22,7 +22,7 @@ use Rattle.lane.specs.Calls.{none, begunState, enterNo, enteredState, le
 use Rattle.lane.specs.Call.{Call, start-call, enter-call, leave-call, cycle-call, read-call, text-call, Answer, bare, placed, run, shown, told, meaning, callNo, acceptedState, lentTo, acceptedAnswer, callAnswer, Gives, entered, cycled, readOut, listed}
 use Rattle.lane.proofs.checks.Records.{wordsFor, words-for}
 use Rattle.lane.proofs.checks.Soundness.{fit-at, fit-narrow}
-use Rattle.lane.proofs.calls.Answers.{refused-changes-nothing, refused-answers, accepted-changes, accepted-answers, answer-number, counted-most, enter-tells, walk-le, named-tells, ready-tells, cycle-tells}
+use Rattle.lane.proofs.calls.Answers.{refused-changes-nothing, accepted-changes, accepted-answers, answer-number, counted-most, enter-tells, walk-le, named-tells, ready-tells, cycle-tells}
 
 -- ---- the lane that is left
 

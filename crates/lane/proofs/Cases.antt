@@ -12,7 +12,6 @@ use Rattle.headway.specs.Wishes.{restsBehind}
 use Rattle.wish.specs.Units.{unitsOf}
 use Rattle.wish.specs.Trimming.{trimmedTo}
 use Rattle.wish.specs.Cases.{accelerationCases}
-use Rattle.lane.specs.declared.Carrier.{Carrier}
 use Rattle.lane.specs.Surface.{houseRows, rowOf}
 use Rattle.lane.specs.Safety.{safeWith, safeFrom, laneSafe, anyOf, firstPlace, repeats}
 use Rattle.lane.specs.Rules.{roadNo, unlawful, pastEnd, faulty, broken, newcomerNo}
