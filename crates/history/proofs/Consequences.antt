@@ -1,25 +1,29 @@
 -- What a reader may take from `history`: at each call of the list, and in plain words; and that a lane once started never breaks a rule.
 use mathlib.Core.Path.{_≡_, refl, sym, ap, _∙_, subst}
-use mathlib.Core.Bool.{Bool, true, false, _&&_, _||_, true≢false}
-use mathlib.Core.List.{List, [], _∷_, _++_}
-use Prim.Native.Nat.{ℕ, _*_, _^_, _≤_, _<_}
+use mathlib.Core.Bool.{Bool, true, false, not, _&&_, _||_, true≢false}
+use mathlib.Core.List.{List, [], _∷_, _++_, map}
+use Prim.Native.Nat.{ℕ, suc, _-_, _*_, _^_, _≤_, _<_}
 use native.Mathlib.Omega.{arith}
-use borrow.Author.Tests.{le-ltb, ltb-true, ltb-false}
+use borrow.Author.Tests.{lt-ltb, le-ltb, ltb-true, ltb-false}
 use lib.Dec.{ltb, ltb→lt}
 use lib.ListN.{length, getD}
-use lib.IntN.{pos}
+use lib.IntN.{ℤ, pos, _+ℤ_, _*ℤ_}
 use lib.Signed.{_<ℤ_, <ℤ-irrefl}
 use Rattle.headway.specs.Motion.{positionAfter}
-use Rattle.headway.proofs.Laws.{fraction-at-start, fraction-at-end}
+use Rattle.headway.specs.Wishes.{restsBehind}
+use Rattle.headway.proofs.Laws.{fraction-form, fraction-at-start, fraction-at-end}
 use Rattle.wish.specs.declared.Wish.{Wish}
+use Rattle.wish.specs.declared.Wish.the-variants.{Hold}
 use Rattle.lane.specs.declared.Carrier.{Carrier}
+use Rattle.lane.specs.Surface.{rowIn}
 use Rattle.lane.specs.Layout.{Words, stateOf}
+use Rattle.lane.specs.Safety.{guaranteedRate, reachTo}
 use Rattle.lane.specs.Calls.{none}
-use Rattle.lane.specs.Call.{Call, cycle-call, Answer, callNo, Kept}
+use Rattle.lane.specs.Call.{Call, cycle-call, read-call, Answer, callNo, Kept}
 use Rattle.lane.proofs.CallLaws.{answer-number, kept-not-21}
-use Rattle.history.specs.Book.{Seen, Book, begun, drivenIn, booked}
-use Rattle.history.specs.Claims.{carrierAt, placeAt, restsLevelOrCrossed, Claims}
-use Rattle.history.specs.History.{Event, seen, Ran, AllTyped, HistoryOf, startsLane, Chain, chain-end, chain-next, Throughout, NeverBroken}
+use Rattle.history.specs.Book.{Seen, Book, begun, trimmedIn, drivenIn, booked}
+use Rattle.history.specs.Claims.{Kind, begins, runs, other, kindOf, carrierAt, placeAt, isReplaced, restsLevelOrCrossed, Claims}
+use Rattle.history.specs.History.{Event, seen, Ran, Typed, AllTyped, HistoryOf, startsLane, Chain, chain-end, chain-next, Throughout, NeverBroken}
 use Rattle.history.proofs.Bits.{below-power}
 use Rattle.history.proofs.Books.{driven-at-least}
 use Rattle.history.proofs.Lasting.{goes-on}
@@ -66,6 +70,11 @@ apart-after after s b c i j d p q e = by-order (ltb i j) refl
     by-order true h = omega (arith, e, c .order i j (ltb-true i j h) q)
     by-order false h = omega (arith, e, c .order j i (omega (arith, d, ltb-false i j h)) p)
 
+-- on the lane itself each carrier is below every one ahead
+pub below-after : (after : Words) (s : Seen) (b : Book) → Claims after s b → (i j : ℕ) → i < j → j < length (stateOf after .carriers)
+    → getD (stateOf after .carriers) j none .position < getD (stateOf after .carriers) i none .position
+below-after after s b c i j p q = rw (c .carriers) (c .order i j p (rw (c .carriers) at q))
+
 -- ---- in a cycle run
 
 -- where the carrier at a place is after the whole cycle
@@ -85,36 +94,75 @@ apart-within after count word ws b c n k i j hn hk d p q e = by-order (ltb i j) 
     by-order true h = <ℤ-irrefl (rw e at (c .cycle-run .0 n k i j hn hk (ltb-true i j h) q))
     by-order false h = <ℤ-irrefl (rw (sym e) at (c .cycle-run .0 n k j i hn hk (omega (arith, d, ltb-false i j h)) p))
 
--- at its start and at its end, where those are who are gone after it too, each is below every one ahead in the very positions
 module _ (after : Words) (count word : ℕ) (ws : List Wish) (b : Book)
-    (c : Claims after (record { call = cycle-call count ws; refused = false; word = word }) b) (i j : ℕ) (p : i < j) (q : j < length (b .carriers)) where
-  pub apart-at-start : carrierAt b j .position < carrierAt b i .position
-  apart-at-start =
-      pos-below (rw (fraction-at-start 1 (carrierAt b j .position), fraction-at-start 1 (carrierAt b i .position)) at (c .cycle-run .0 1 0 i j (omega arith) (omega arith) p q))
+    (c : Claims after (record { call = cycle-call count ws; refused = false; word = word }) b) where
+  -- what the carrier at a place drives
+  abbrev pub driven : ℕ → ℤ
+  driven i = getD (drivenIn b word (b .carriers) ws) i (pos 0)
 
-  pub apart-at-end : endOf b word ws j < endOf b word ws i
-  apart-at-end =
-      pos-below
-      (rw (
-        fraction-at-end 1 _ _ _ (driven-at-least b word (b .carriers) ws j),
-        fraction-at-end 1 _ _ _ (driven-at-least b word (b .carriers) ws i),
-      ) at (c .cycle-run .0 1 1 i j (omega arith) (omega arith) p q))
+  module _ (i j : ℕ) (p : i < j) (q : j < length (b .carriers)) where
+    -- at every fraction each is below every one ahead, in the document's own form: "n² times the position is n²p + 2vkn + ak²"
+    pub below-within : (n k : ℕ) → 1 ≤ n → k ≤ n
+        → (pos (n * n * carrierAt b j .position) +ℤ pos (2 * carrierAt b j .speed * k * n) +ℤ driven j *ℤ pos (k * k))
+        <ℤ (pos (n * n * carrierAt b i .position) +ℤ pos (2 * carrierAt b i .speed * k * n) +ℤ driven i *ℤ pos (k * k))
+    below-within n k hn hk =
+        rw (
+          fraction-form n k (carrierAt b j .position) (carrierAt b j .speed) (driven j),
+          fraction-form n k (carrierAt b i .position) (carrierAt b i .speed) (driven i),
+        ) at (c .cycle-run .0 n k i j hn hk p q)
 
--- a bit is set for a carrier's wish alone
-pub word-within : (after : Words) (count word : ℕ) (ws : List Wish) (b : Book)
-    → Claims after (record { call = cycle-call count ws; refused = false; word = word }) b → word < 2 ^ length (b .carriers)
-unfolding restsLevelOrCrossed
-word-within after count word ws b c = below-power (length (b .carriers)) word λ i h. c .cycle-run .1 i ∙ rw (le-ltb i (length (b .carriers)) h) (neither (ltb 0 i))
-  where
-    neither : (t : Bool) → t && false ≡ false
-    neither true = refl
-    neither false = refl
+    -- so at its start and at its end, where those are who are gone after it too, in the very positions
+    pub apart-at-start : carrierAt b j .position < carrierAt b i .position
+    apart-at-start =
+        pos-below (rw (fraction-at-start 1 (carrierAt b j .position), fraction-at-start 1 (carrierAt b i .position)) at (c .cycle-run .0 1 0 i j (omega arith) (omega arith) p q))
+
+    pub apart-at-end : endOf b word ws j < endOf b word ws i
+    apart-at-end =
+        pos-below
+        (rw (
+          fraction-at-end 1 _ _ _ (driven-at-least b word (b .carriers) ws j),
+          fraction-at-end 1 _ _ _ (driven-at-least b word (b .carriers) ws i),
+        ) at (c .cycle-run .0 1 1 i j (omega arith) (omega arith) p q))
+
+  -- a wish is replaced where the carrier would not rest behind the one next ahead, and nowhere else: never that of the foremost carrier,
+  pub foremost-stands : isReplaced word 0 ≡ false
+  unfolding restsLevelOrCrossed
+  foremost-stands = c .cycle-run .1 0
+
+  pub replaced-exactly : (i : ℕ) → 0 < i → i < length (b .carriers)
+      → isReplaced word i
+      ≡ not (restsBehind (guaranteedRate (rowIn (b .road)) (carrierAt b i)) (rowIn (b .road) .hardest) (reachTo (carrierAt b (i - 1)) (carrierAt b i)) (carrierAt b i .speed) (trimmedIn b (carrierAt b i) (getD ws i Hold)) (carrierAt b (i - 1) .position) (carrierAt b (i - 1) .speed))
+  unfolding restsLevelOrCrossed
+  replaced-exactly i p q = c .cycle-run .1 i ∙ rw (lt-ltb 0 i p, lt-ltb i (length (b .carriers)) q) refl
+
+  -- nor at a place that holds none
+  pub word-within : word < 2 ^ length (b .carriers)
+  unfolding restsLevelOrCrossed
+  word-within = below-power (length (b .carriers)) word λ i h. c .cycle-run .1 i ∙ rw (le-ltb i (length (b .carriers)) h) (neither (ltb 0 i))
+    where
+      neither : (t : Bool) → t && false ≡ false
+      neither true = refl
+      neither false = refl
 
 -- ---- of lists
 
--- for every list of calls from an empty lane there is a history, and what is claimed holds throughout it
-pub every-list-claimed : (l : Words) → stateOf l .count ≡ 0 → (xs : List Call) → AllTyped xs → (h : HistoryOf l xs) × Throughout (begun l) (h .events)
-every-list-claimed l e xs t = let h = every-list l xs t in (h, history l e (h .events) (h .last) (h .ran))
+-- for every list of calls from an empty lane, cycles with any sixty-four wishes among them, there is a history, and what is claimed holds
+-- throughout it
+pub every-list-claimed : (l : Words) → stateOf l .count ≡ 0 → (xs : List Call)
+    → ((i count : ℕ) (ws : List Wish) → getD xs i (read-call 0) ≡ cycle-call count ws → length ws ≡ 64)
+    → (es : List Event) × (d : Words) × Ran l es d × (map (λ (e : Event). e .call) es ≡ xs) × Throughout (begun l) es
+every-list-claimed l e xs sixty-four =
+    let h = every-list l xs (all-typed xs sixty-four) in
+    (h .events, h .last, h .ran, h .calls, history l e (h .events) (h .last) (h .ran))
+  where
+    typed : {x : Call} (k : Kind x) → ((count : ℕ) (ws : List Wish) → x ≡ cycle-call count ws → length ws ≡ 64) → Typed k
+    typed (begins road first) h = tt
+    typed (runs count ws) h = h count ws refl
+    typed (other x) h = tt
+
+    all-typed : (ys : List Call) → ((i count : ℕ) (ws : List Wish) → getD ys i (read-call 0) ≡ cycle-call count ws → length ws ≡ 64) → AllTyped ys
+    all-typed [] h = tt
+    all-typed (x ∷ ys) h = (typed (kindOf x) (h 0), all-typed ys (λ i. h (suc i)))
 
 lasting : {l d : Words} {es : List Event} (started : Bool) → (started ≡ true → Kept (stateOf l)) → Chain l es d → NeverBroken started es
 lasting started h chain-end = tt

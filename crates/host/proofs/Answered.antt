@@ -7,7 +7,9 @@ use Prim.Native.Nat.{ℕ}
 use borrow.Author.Tests.{eqb-true, eqb-false}
 use lib.Dec.{eqb}
 use lib.ListN.{drop}
+use Rattle.lane.specs.declared.Carrier.{Carrier}
 use Rattle.lane.specs.declared.Cycled.{Cycled}
+use Rattle.lane.specs.declared.Road.{Road}
 use Rattle.lane.specs.Layout.{Words, stateOf}
 use Rattle.lane.specs.Calls.{ifAccepted, readyNo}
 use Rattle.lane.specs.Call.{Call, start-call, enter-call, leave-call, cycle-call, read-call, text-call, bare, entered, cycled, readOut, listed, callAnswer}
@@ -135,3 +137,8 @@ every-host-list l (x ∷ xs) =
 -- for every list of exported calls from an empty lane there is a history, and what is claimed holds throughout it
 pub every-host-list-claimed : (l : Words) → stateOf l .count ≡ 0 → (xs : List HostCall) → (h : HostHistoryOf l xs) × Throughout (begun l) (h .events)
 every-host-list-claimed l e xs = let h = every-host-list l xs in (h, host-history l e xs (h .events) (h .last) (h .ran))
+
+-- each exported call may stand in a list, with any arguments
+pub each-host-call : (l : Words) (road : Road) (first : ℕ) (c : Carrier) (number count : ℕ) (sorts values buffer input : List ℕ) (at : ℕ)
+    → HostHistoryOf l (starts road first ∷ enters c ∷ leaves number ∷ cycles count sorts values ∷ reads number ∷ lists buffer ∷ steps input at buffer ∷ [])
+each-host-call l road first c number count sorts values buffer input at = every-host-list l _
