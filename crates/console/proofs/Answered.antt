@@ -2,28 +2,36 @@
 -- program.
 use mathlib.Core.Path.{_≡_, refl, sym, _∙_}
 use mathlib.Core.Bool.{Bool, true, false, cond, _||_, true≢false}
-use mathlib.Core.List.{List, []}
-use Prim.Native.Nat.{ℕ, zero, suc, _+_, _≤_}
+use mathlib.Core.List.{List, [], _++_}
+use Prim.Native.Nat.{ℕ, zero, suc, _+_, _≤_, _<_}
 use native.Mathlib.Omega.{arith}
 use borrow.Author.Tests.{leb-true, ltb-true, ltb-false}
+use contract.Lifetimes.{Lfts}
+use denote.Ref.{RefT, now, at-last}
 use lib.Dec.{eqb, leb, ltb}
 use lib.ListN.{length, take, drop, replicate, length-replicate}
 use Rattle.text.specs.Lines.{written, placeAfter}
 use Rattle.lane.specs.Layout.{Words, stateOf, emptyWords}
 use Rattle.lane.specs.Call.{Call, meaning, callAnswer}
+use Rattle.lane.proofs.empty.Reads as empty-reads
 use Rattle.lane.proofs.Answerable.{gives-some}
-use Rattle.history.specs.History.{Event}
+use Rattle.history.specs.Book.{begun}
+use Rattle.history.specs.History.{Event, callsIn, Throughout, NeverBroken}
 use Rattle.history.proofs.Answered.{lent}
 use Rattle.console.specs.declared.Stepped.{Stepped}
 use Rattle.console.specs.Limits.{answerSpace}
 use Rattle.console.specs.Blocks.{Parsed, parsed, malformed, blockIn}
 use Rattle.console.specs.Output.{refusal, printed, keepsLane}
-use Rattle.console.specs.Program.{Step, halted, withoutRoom, ran, stepOf, stepInto, Prints, StepGives, lengthAnswer}
+use Rattle.console.specs.Program.{Step, halted, withoutRoom, ran, stepOf, stepInto, Prints, StepGives, lengthAnswer, outputOf}
+use Rattle.console.specs.History.{callsOf}
 use Rattle.console.proofs.Printing.{put-within}
 use Rattle.console.proofs.Room.{refusal-fits, fits}
 use Rattle.console.proofs.Steps.{gives-nothing}
-use Rattle.console.proofs.Called.{Called, Ran, last, then, stops, fewer}
-use Rattle.console.proofs.Run.{Measured, Emptied, Printed, refused, accepted}
+use Rattle.console.proofs.Called.{Called, ranBy, Ran, last, then, stops, fewer}
+use Rattle.console.proofs.Run.{Measured, Emptied, Printed, refused, accepted, run-gives}
+use Rattle.console.proofs.RunHistory.{program-history, program-never-broken, program-calls}
+use Rattle.console.proofs.step.Reads as step-reads
+use Rattle.console.proofs.refuse_long.Reads as long-reads
 
 -- ---- a step
 
@@ -161,3 +169,38 @@ every-input input = by-test (ltb 0 put) refl
     by-test false e =
         let s = in-turn input (length input) emptyWords 0 (omega arith) in
         record { events = s .events; out = s .out; run = accepted measured (omega (arith, ltb-false 0 put e)) emptied (s .ran) }
+
+-- for every input there is a run: its calls are the input's blocks, its output is the whole output, what is claimed holds throughout, and no
+-- block gives 21 after a start
+pub every-input-claimed : (input : List ℕ)
+    → (r : RunOf (take 65537 input)) × (callsIn (r .events) ≡ callsOf input) × (r .out ≡ outputOf input) × Throughout (begun emptyWords) (r .events) × NeverBroken false (r .events)
+every-input-claimed input =
+    let r = every-input (take 65537 input) in (
+      r,
+      program-calls input (r .out) (r .events) (r .run),
+      run-gives input (r .out) (r .events) (r .run),
+      program-history _ (r .out) (r .events) (r .run),
+      program-never-broken _ (r .out) (r .events) (r .run),
+    )
+
+-- ---- whatever a contract says is a part of a run
+
+-- for every reference and every argument a contract asks nothing of its caller, and what it then says, of a buffer that is long enough, is a part
+-- of a run; and the parts may be joined, whatever they are
+pub each-contract : (κ : Lfts 1) (κs : Lfts 3) (l : RefT Words) (m : Words) (text out : RefT (List ℕ)) (at : ℕ) (input : List ℕ)
+    → (step-reads.Asked κs (l, (text, (at, (out, tt)))) × ((r : Stepped) (left : List ℕ) → answerSpace ≤ length (now out) → step-reads.Learnt κs (l, (text, (at, (out, tt)))) r (at-last l m, (text, (at, (at-last out left, tt)))) → Called (now text) (now l) at r m left))
+    × (long-reads.Asked κ (length input, (out, tt)) × ((w : ℕ) (left : List ℕ) → answerSpace ≤ length (now out) → long-reads.Learnt κ (length input, (out, tt)) w (length input, (at-last out left, tt)) → Measured input w left))
+    × (empty-reads.Asked κ (l, tt) × (empty-reads.Learnt κ (l, tt) tt (at-last l m, tt) → Emptied m))
+    × ((before after : Words) (r : Stepped) (left : List ℕ) (c : Called input before at r after left) → r .stop ≡ true → Ran input before at (ranBy c) after (take (r .written) left))
+    × ((before after end : Words) (r : Stepped) (left rest : List ℕ) (es : List Event) (c : Called input before at r after left) → r .stop ≡ false → Ran input after (r .next) es end rest → Ran input before at (ranBy c ++ es) end (take (r .written) left ++ rest))
+    × ((w : ℕ) (left : List ℕ) → Measured input w left → 0 < w → Printed input [] (take w left))
+    × ((w : ℕ) (left : List ℕ) (first end : Words) (es : List Event) (written : List ℕ) → Measured input w left → w ≡ 0 → Emptied first → Ran input first 0 es end written → Printed input es written)
+each-contract κ κs l m text out at input = (
+  (tt, λ r left h s. record { κs = κs; lane = l; text = text; out = out; lane-is = refl; text-is = refl; long = h; says = s }),
+  (tt, λ w left h s. record { κs = κ; out = out; long = h; says = s }),
+  (tt, λ s. record { κs = κ; lane = l; says = s }),
+  λ before after r left c e. last c e,
+  λ before after end r left rest es c e k. then c e k,
+  λ w left a h. refused a h,
+  λ w left first end es written a h e k. accepted a h e k,
+)

@@ -37,10 +37,6 @@ pub record Called (input : List ℕ) (before : Words) (at : ℕ) (r : Stepped) (
   pub long : answerSpace ≤ length (now out)
   pub says : step-reads.Learnt κs (lane, (text, (at, (out, tt)))) r (at-last lane after, (text, (at, (at-last out left, tt))))
 
--- the contract asks nothing of its caller
-pub may : (κs : Lfts 3) (lane : RefT Words) (text : RefT (List ℕ)) (at : ℕ) (out : RefT (List ℕ)) → step-reads.Asked κs (lane, (text, (at, (out, tt))))
-may κs lane text at out = tt
-
 -- the calls of the lane that it is: that of its block, or none
 abbrev pub ranBy : {input : List ℕ} {before : Words} {at : ℕ} {r : Stepped} {after : Words} {left : List ℕ} → Called input before at r after left
     → List Event
@@ -82,30 +78,30 @@ by-length s t (no n) h =
 -- ---- one call
 
 module _ {input : List ℕ} {before after : Words} {at : ℕ} {r : Stepped} {left : List ℕ} (c : Called input before at r after left) where
-  abbrev pub x : Step
-  x = stepOf (stateOf before) (drop at input)
+  abbrev pub taken : Step
+  taken = stepOf (stateOf before) (drop at input)
 
-  pub gave : StepGives before x at (now (c .out)) r after left
+  pub gave : StepGives before taken at (now (c .out)) r after left
   gave = rw (c .lane-is, c .text-is, step-into (now (c .out)) (stateOf before) (drop at input) (c .long)) at (c .says)
 
-  pub wrote : take (r .written) left ≡ x .output
+  pub wrote : take (r .written) left ≡ taken .output
   wrote =
       let p = gave .prints in
-      rw (p .written-length, p .bytes, ← zero-add (length (x .output))) (written-up-to 0 (x .output) (now (c .out)) (omega (arith, p .room)))
+      rw (p .written-length, p .bytes, ← zero-add (length (taken .output))) (written-up-to 0 (taken .output) (now (c .out)) (omega (arith, p .room)))
 
-  pub on : drop (r .next) input ≡ drop (x .used) (drop at input)
-  on = rw (gave .prints .next) (sym (drop-drop (x .used) at input))
+  pub goes-on : drop (r .next) input ≡ drop (taken .used) (drop at input)
+  goes-on = rw (gave .prints .next) (sym (drop-drop (taken .used) at input))
 
   -- at the end of the input it stops and writes nothing
   module _ (e : length (drop at input) ≡ 0) where
     pub stops : r .stop ≡ true
     stops = gave .prints .stop ∙ ap (λ (y : Step). y .stop) (at-end (stateOf before) (drop at input) e)
 
-    pub nothing : take (r .written) left ≡ []
-    nothing = wrote ∙ ap (λ (y : Step). y .output) (at-end (stateOf before) (drop at input) e)
+    pub writes-nothing : take (r .written) left ≡ []
+    writes-nothing = wrote ∙ ap (λ (y : Step). y .output) (at-end (stateOf before) (drop at input) e)
 
   -- else fewer bytes are left
   pub fewer : (n : ℕ) → length (drop at input) ≤ suc n → r .stop ≡ false → length (drop (r .next) input) ≤ n
   fewer n h e =
       let u = by-length (stateOf before) (drop at input) (decLt (length (drop at input)) 1) (sym (gave .prints .stop) ∙ e) in
-      rw on (omega (arith, length-drop (x .used) (drop at input)))
+      rw goes-on (omega (arith, length-drop (taken .used) (drop at input)))

@@ -30,7 +30,7 @@ use Rattle.console.specs.Program.{halted, withoutRoom, ran, stepOf, step
 use Rattle.console.specs.Output.{refusal, printed}
 use Rattle.console.proofs.Printing.{short-line}
 use Rattle.console.proofs.Showing.{show-prints}
-use Rattle.console.proofs.Called.{Ran, last, then, x, gave, wrote, on, stops, nothing, fewer}
+use Rattle.console.proofs.Called.{Ran, last, then, taken, gave, wrote, goes-on, stops, writes-nothing, fewer}
 use Rattle.console.proofs.Steps.{too-short, step-into}
 use Rattle.console.proofs.refuse_long.Reads as long-reads
 
@@ -77,14 +77,14 @@ module _ (before after : Words) (t : List ℕ) {at : ℕ} {buffer left : List �
 from : (input : List ℕ) (n : ℕ) {l end : Words} {at : ℕ} {es : List Event} {out : List ℕ} → Ran input l at es end out → length (drop at input) ≤ n
     → out ≡ outputFrom n (stateOf l) (drop at input)
 unfolding outputFrom
-from input zero (last c e) h = nothing c (omega arith)
+from input zero (last c e) h = writes-nothing c (omega arith)
 from input zero (then c e k) h = absurd (true≢false (sym (stops c (omega arith)) ∙ e))
 from input (suc n) {l} {at} (last c e) h =
     let t : stepOf (stateOf l) (drop at input) .stop ≡ true = sym (gave c .prints .stop) ∙ e in
-    rw (wrote c, t) (sym (append-nil (x c .output)))
+    rw (wrote c, t) (sym (append-nil (taken c .output)))
 from input (suc n) {l} {at} (then c e k) h =
     let f : stepOf (stateOf l) (drop at input) .stop ≡ false = sym (gave c .prints .stop) ∙ e in
-    rw (wrote c, f) (ap (λ (l : List ℕ). x c .output ++ l) (from input n k (fewer c n h e) ∙ ap₂ (outputFrom n) (gave c .state) (on c)))
+    rw (wrote c, f) (ap (λ (l : List ℕ). taken c .output ++ l) (from input n k (fewer c n h e) ∙ ap₂ (outputFrom n) (gave c .state) (goes-on c)))
 
 -- ---- an input that is too long
 
@@ -94,10 +94,6 @@ pub record Measured (input : List ℕ) (w : ℕ) (left : List ℕ) : Type 0 wher
   pub out : RefT (List ℕ)
   pub long : answerSpace ≤ length (now out)
   pub says : long-reads.Learnt κs (length input, (out, tt)) w (length input, (at-last out left, tt))
-
--- this contract, too, asks nothing of its caller
-pub may-measure : (κs : Lfts 1) (bytes : ℕ) (out : RefT (List ℕ)) → long-reads.Asked κs (bytes, (out, tt))
-may-measure κs bytes out = tt
 
 -- what the contract of `empty` says of a lane that it has emptied
 pub record Emptied (l : Words) : Type 0 where

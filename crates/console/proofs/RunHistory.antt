@@ -2,7 +2,7 @@
 -- are: the blocks of the text in turn.
 use mathlib.Core.Path.{_≡_, refl, sym, ap, _∙_, subst}
 use mathlib.Core.Bool.{Bool, true, false, cond, true≢false}
-use mathlib.Core.List.{List, [], _∷_, _++_, map, append-nil}
+use mathlib.Core.List.{List, [], _∷_, _++_, append-nil}
 use Prim.Native.Nat.{ℕ, zero, suc, _≤_, _<_}
 use native.Mathlib.Nat.{le-refl}
 use native.Mathlib.Omega.{arith}
@@ -14,15 +14,16 @@ use Rattle.lane.specs.State.{State}
 use Rattle.lane.specs.Layout.{Words, stateOf, emptyWords}
 use Rattle.lane.specs.Call.{Call}
 use Rattle.history.specs.Book.{begun}
-use Rattle.history.specs.History.{Event, Chain, chain-end, Throughout}
+use Rattle.history.specs.History.{Event, callsIn, Chain, chain-end, Throughout, NeverBroken}
 use Rattle.history.proofs.History.{chain-history}
+use Rattle.history.proofs.Consequences.{chain-never-broken}
 use Rattle.console.specs.declared.Stepped.{Stepped}
 use Rattle.console.specs.Limits.{longestInput, answerSpace}
 use Rattle.console.specs.Blocks.{Parsed, parsed, malformed, blockIn}
 use Rattle.console.specs.Program.{halted, ran, stepOf, tooLong}
 use Rattle.console.specs.History.{blockAt, blockRun, eventsOf, callsWith, callsFrom, callsOf}
 use Rattle.console.proofs.Calls.{step-chain}
-use Rattle.console.proofs.Called.{Called, ranBy, Ran, last, then, x, gave, on, stops, fewer}
+use Rattle.console.proofs.Called.{Called, ranBy, Ran, last, then, taken, gave, goes-on, stops, fewer}
 use Rattle.console.proofs.Run.{Printed, refused, accepted, long-if, short-if, cut-unseen}
 
 -- ---- the claims
@@ -42,10 +43,12 @@ program-history input out es (accepted m h {l} {end} e r) =
     let chain : Chain emptyWords es end = subst (λ (k : Words). Chain k es end) (e .says) (ran-chain r) in
     chain-history emptyWords refl es end chain
 
--- ---- which calls they are
+-- and once a start was accepted no block gives 21
+pub program-never-broken : (input out : List ℕ) (es : List Event) → Printed input es out → NeverBroken false es
+program-never-broken input out es (refused m h) = tt
+program-never-broken input out es (accepted m h e r) = chain-never-broken (ran-chain r)
 
-abbrev callsIn : List Event → List Call
-callsIn es = map (λ (e : Event). e .call) es
+-- ---- which calls they are
 
 -- a step that stops runs no block, and one that goes on runs the block that it takes
 module _ (s : State) (before after : Words) (later : ℕ → List Call) where
@@ -76,7 +79,7 @@ module _ {input : List ℕ} {before after : Words} {at : ℕ} {r : Stepped} {lef
       let n = stopped-calls (stateOf before) before after later (eqb (length text) 0) (blockIn text) (sym (gave c .prints .stop) ∙ e) in
       (ap (λ (p : Parsed). callsIn (eventsOf p before after)) room-run ∙ n .0, n .1)
 
-  then-calls : (es : List Event) → r .stop ≡ false → callsIn es ≡ later (x c .used) → callsIn (ranBy c ++ es) ≡ callsWith (blockAt text) later
+  then-calls : (es : List Event) → r .stop ≡ false → callsIn es ≡ later (taken c .used) → callsIn (ranBy c ++ es) ≡ callsWith (blockAt text) later
   unfolding stepOf blockAt
   then-calls es e h =
       ap (λ (p : Parsed). callsIn (eventsOf p before after ++ es)) room-run
@@ -91,7 +94,7 @@ from-calls input (suc n) {at = at} (last c e) h =
     let none = last-calls c (λ used. callsFrom n (drop used (drop at input))) e in
     none .0 ∙ sym (none .1)
 from-calls input (suc n) {at = at} (then {es = es} c e k) h =
-    then-calls c (λ used. callsFrom n (drop used (drop at input))) es e (from-calls input n k (fewer c n h e) ∙ ap (callsFrom n) (on c))
+    then-calls c (λ used. callsFrom n (drop used (drop at input))) es e (from-calls input n k (fewer c n h e) ∙ ap (callsFrom n) (goes-on c))
 
 run-calls : (input out : List ℕ) (es : List Event) → Printed input es out → callsIn es ≡ callsOf input
 unfolding callsOf
@@ -103,5 +106,5 @@ unfolding tooLong callsOf
 long-calls t h = rw (lt-ltb longestInput (length t) h) refl
 
 -- the calls of a run are the blocks of the input, in turn
-pub program-calls : (input out : List ℕ) (es : List Event) → Printed (take 65537 input) es out → map (λ (e : Event). e .call) es ≡ callsOf input
+pub program-calls : (input out : List ℕ) (es : List Event) → Printed (take 65537 input) es out → callsIn es ≡ callsOf input
 program-calls input out es p = run-calls (take 65537 input) out es p ∙ cut-unseen callsOf [] long-calls input

@@ -5,21 +5,35 @@ use mathlib.Core.Bool.{true, false}
 use mathlib.Core.List.{List, [], _∷_}
 use Prim.Native.Nat.{ℕ}
 use contract.Lifetimes.{Lfts}
-use denote.Ref.{RefT}
+use denote.Ref.{RefT, now, at-last}
 use lib.Ieee.Exact.{HasValue}
+use lib.ListN.{length}
+use Rattle.wish.specs.declared.Wish.{Wish}
+use Rattle.lane.specs.declared.Carrier.{Carrier}
+use Rattle.lane.specs.declared.Cycled.{Cycled}
+use Rattle.lane.specs.declared.Entered.{Entered}
+use Rattle.lane.specs.declared.Listed.{Listed}
+use Rattle.lane.specs.declared.ReadOut.{ReadOut}
+use Rattle.lane.specs.declared.Road.{Road}
 use Rattle.lane.specs.State.{State}
 use Rattle.lane.specs.Layout.{Words, stateOf}
 use Rattle.lane.specs.Calls.{namedCarrier}
-use Rattle.lane.specs.Call.{Call, start-call, enter-call, leave-call, cycle-call, read-call, text-call, Answer, meaning, callAnswer, Gives}
+use Rattle.lane.specs.Call.{Call, start-call, enter-call, leave-call, cycle-call, read-call, text-call, Answer, meaning, callAnswer, Gives, bare, entered, cycled, readOut, listed}
+use Rattle.lane.proofs.start.Reads as start-reads
+use Rattle.lane.proofs.enter.Reads as enter-reads
+use Rattle.lane.proofs.leave.Reads as leave-reads
+use Rattle.lane.proofs.cycle.Reads as cycle-reads
+use Rattle.lane.proofs.read.Reads as read-reads
+use Rattle.lane.proofs.lane_text.Reads as text-reads
 use Rattle.lane.proofs.Answerable.{gives-some, returned, read-exact}
 use Rattle.history.specs.Claims.{kindOf}
-use Rattle.history.specs.History.{OfLane, Did, none-yet, then, Typed, AllTyped, HistoryOf}
+use Rattle.history.specs.History.{Event, OfLane, Did, Ran, none-yet, then, Typed, AllTyped, HistoryOf}
+
+-- ---- every list has a history
 
 -- a reference to what is lent
 abbrev pub lent : {X : Type 0} → X → RefT X
 lent x = record { ptr = (0, 0); name = 0; now = x }
-
--- ---- each call, on the lane `l`
 
 -- the lane that it leaves, and its answer in the form of its function
 module _ (x : Call) (l : Words) where
@@ -33,9 +47,13 @@ module _ (x : Call) (l : Words) where
   pub reads-as : {a : Answer} → meaning x .reads ≡ true → callAnswer x (stateOf l) ≡ a → Gives x l a l
   reads-as {a} r e = subst (λ (m : Words). Gives x l a m) (gives-some x l .2 r) (gives-as e)
 
+-- said of the lane behind a reference
+pub of-lane : (κ : Lfts 1) (l : RefT Words) {Says : Lfts 1 → RefT Words → Type 0} → Says κ l → OfLane (now l) Says
+of-lane κ l s = record { κs = κ; lane = l; before = refl; says = s }
+
 -- a lane lent to a call, as the contract of its function has it
 pub lends : {l : Words} {Says : Lfts 1 → RefT Words → Type 0} → Says ([], tt) (lent l) → OfLane l Says
-lends {l} s = record { κs = ([], tt); lane = lent l; before = refl; says = s }
+lends {l} s = of-lane ([], tt) (lent l) s
 
 -- the two doubles of a read
 abbrev pub Exact : (s : State) (number : ℕ) → Answer → Type 0
@@ -63,11 +81,32 @@ did (text-call buffer) l t =
 pub every-list : (l : Words) (xs : List Call) → AllTyped xs → HistoryOf l xs
 every-list l [] t = record { events = []; last = l; calls = refl; ran = none-yet }
 every-list l (x ∷ xs) t =
-    let m = gives-some x l .0 in
-    let h = every-list m xs (t .1) in
+    let h = every-list (left x l) xs (t .1) in
     record {
-      events = record { call = x; answer = callAnswer x (stateOf l); left = m } ∷ h .events;
+      events = record { call = x; answer = callAnswer x (stateOf l); left = left x l } ∷ h .events;
       last = h .last;
       calls = ap (λ (ys : List Call). x ∷ ys) (h .calls);
       ran = then (did x l (t .0)) (h .ran);
     }
+
+-- ---- whatever a contract says is a step of a history
+
+-- for every reference and every argument a contract asks nothing of its caller, and what it then says of an answer and of the lane left is a
+-- step; and every step may go before every list
+pub each-contract : (κ : Lfts 1) (κs : Lfts 2) (l : RefT Words) (m : Words) (road : Road) (c : Carrier) (n : ℕ) (ws : List Wish) (out : RefT (List ℕ))
+    → (start-reads.Asked κ (l, (road, (n, tt))) × ((no : ℕ) → start-reads.Learnt κ (l, (road, (n, tt))) no (at-last l m, (road, (n, tt))) → Did (start-call road n) (now l) (bare no []) m))
+    × (enter-reads.Asked κ (l, (c, tt)) × ((r : Entered) → enter-reads.Learnt κ (l, (c, tt)) r (at-last l m, (c, tt)) → Did (enter-call c) (now l) (entered r) m))
+    × (leave-reads.Asked κ (l, (n, tt)) × ((no : ℕ) → leave-reads.Learnt κ (l, (n, tt)) no (at-last l m, (n, tt)) → Did (leave-call n) (now l) (bare no []) m))
+    × (cycle-reads.Asked κ (l, (n, (ws, tt))) × (length ws ≡ 64 → (r : Cycled) → cycle-reads.Learnt κ (l, (n, (ws, tt))) r (at-last l m, (n, (ws, tt))) → Did (cycle-call n ws) (now l) (cycled r) m))
+    × (read-reads.Asked κ (l, (n, tt)) × ((r : ReadOut) → read-reads.Learnt κ (l, (n, tt)) r (l, (n, tt)) → Did (read-call n) (now l) (readOut r) (now l)))
+    × (text-reads.Asked κs (l, (out, tt)) × ((r : Listed) (bytes : List ℕ) → text-reads.Learnt κs (l, (out, tt)) r (l, (at-last out bytes, tt)) → Did (text-call (now out)) (now l) (listed r bytes) (now l)))
+    × ((e : Event) (es : List Event) (d : Words) → Did (e .call) (now l) (e .answer) (e .left) → Ran (e .left) es d → Ran (now l) (e ∷ es) d)
+each-contract κ κs l m road c n ws out = (
+  (tt, λ no s. of-lane κ l (no, refl, s)),
+  (tt, λ r s. of-lane κ l (r, refl, s)),
+  (tt, λ no s. of-lane κ l (no, refl, s)),
+  (tt, λ e r s. (e, of-lane κ l (r, refl, s))),
+  (tt, λ r s. (refl, of-lane κ l (r, refl, s))),
+  (tt, λ r bytes s. (refl, record { κs = κs; lane = l; out = out; before = refl; lent = refl; says = (r, refl, s) })),
+  λ e es d h r. then h r,
+)

@@ -2,10 +2,11 @@
 use mathlib.Core.Path.{_≡_, refl, sym, ap, _∙_, subst}
 use mathlib.Core.Bool.{Bool, true, false, not, _&&_, _||_, true≢false}
 use mathlib.Core.List.{List, [], _∷_, _++_, map}
-use Prim.Native.Nat.{ℕ, suc, _-_, _*_, _^_, _≤_, _<_}
+use Prim.Native.Nat.{ℕ, suc, _-_, _*_, _/_, _%_, _^_, _≤_, _<_}
+use native.Mathlib.Nat.{div-one}
 use native.Mathlib.Omega.{arith}
 use borrow.Author.Tests.{lt-ltb, le-ltb, ltb-true, ltb-false}
-use lib.Dec.{ltb, ltb→lt}
+use lib.Dec.{eqb, ltb, ltb→lt}
 use lib.ListN.{length, getD}
 use lib.IntN.{ℤ, pos, _+ℤ_, _*ℤ_}
 use lib.Signed.{_<ℤ_, <ℤ-irrefl}
@@ -15,15 +16,16 @@ use Rattle.headway.proofs.Laws.{fraction-form, fraction-at-start, fraction-at-e
 use Rattle.wish.specs.declared.Wish.{Wish}
 use Rattle.wish.specs.declared.Wish.the-variants.{Hold}
 use Rattle.lane.specs.declared.Carrier.{Carrier}
+use Rattle.lane.specs.declared.Road.{Road}
 use Rattle.lane.specs.Surface.{rowIn}
 use Rattle.lane.specs.Layout.{Words, stateOf}
 use Rattle.lane.specs.Safety.{guaranteedRate, reachTo}
 use Rattle.lane.specs.Calls.{none}
-use Rattle.lane.specs.Call.{Call, cycle-call, read-call, Answer, callNo, Kept}
+use Rattle.lane.specs.Call.{Call, start-call, cycle-call, read-call, Answer, callNo, Kept}
 use Rattle.lane.proofs.CallLaws.{answer-number, kept-not-21}
 use Rattle.history.specs.Book.{Seen, Book, begun, trimmedIn, drivenIn, booked}
-use Rattle.history.specs.Claims.{Kind, begins, runs, other, kindOf, carrierAt, placeAt, isReplaced, restsLevelOrCrossed, Claims}
-use Rattle.history.specs.History.{Event, seen, Ran, Typed, AllTyped, HistoryOf, startsLane, Chain, chain-end, chain-next, Throughout, NeverBroken}
+use Rattle.history.specs.Claims.{Kind, begins, runs, other, kindOf, carrierAt, placeAt, restsLevelOrCrossed, Claims}
+use Rattle.history.specs.History.{Event, callsIn, seen, Ran, Typed, AllTyped, HistoryOf, startsLane, Chain, chain-end, chain-next, Throughout, NeverBroken}
 use Rattle.history.proofs.Bits.{below-power}
 use Rattle.history.proofs.Books.{driven-at-least}
 use Rattle.history.proofs.Lasting.{goes-on}
@@ -125,12 +127,12 @@ module _ (after : Words) (count word : ℕ) (ws : List Wish) (b : Book)
         ) at (c .cycle-run .0 1 1 i j (omega arith) (omega arith) p q))
 
   -- a wish is replaced where the carrier would not rest behind the one next ahead, and nowhere else: never that of the foremost carrier,
-  pub foremost-stands : isReplaced word 0 ≡ false
+  pub foremost-stands : eqb (word % 2) 1 ≡ false
   unfolding restsLevelOrCrossed
-  foremost-stands = c .cycle-run .1 0
+  foremost-stands = ap (λ (w : ℕ). eqb (w % 2) 1) (sym (div-one word)) ∙ c .cycle-run .1 0
 
   pub replaced-exactly : (i : ℕ) → 0 < i → i < length (b .carriers)
-      → isReplaced word i
+      → eqb (word / 2 ^ i % 2) 1
       ≡ not (restsBehind (guaranteedRate (rowIn (b .road)) (carrierAt b i)) (rowIn (b .road) .hardest) (reachTo (carrierAt b (i - 1)) (carrierAt b i)) (carrierAt b i .speed) (trimmedIn b (carrierAt b i) (getD ws i Hold)) (carrierAt b (i - 1) .position) (carrierAt b (i - 1) .speed))
   unfolding restsLevelOrCrossed
   replaced-exactly i p q = c .cycle-run .1 i ∙ rw (lt-ltb 0 i p, lt-ltb i (length (b .carriers)) q) refl
@@ -150,7 +152,7 @@ module _ (after : Words) (count word : ℕ) (ws : List Wish) (b : Book)
 -- throughout it
 pub every-list-claimed : (l : Words) → stateOf l .count ≡ 0 → (xs : List Call)
     → ((i count : ℕ) (ws : List Wish) → getD xs i (read-call 0) ≡ cycle-call count ws → length ws ≡ 64)
-    → (es : List Event) × (d : Words) × Ran l es d × (map (λ (e : Event). e .call) es ≡ xs) × Throughout (begun l) es
+    → (es : List Event) × (d : Words) × Ran l es d × (callsIn es ≡ xs) × Throughout (begun l) es
 every-list-claimed l e xs sixty-four =
     let h = every-list l xs (all-typed xs sixty-four) in
     (h .events, h .last, h .ran, h .calls, history l e (h .events) (h .last) (h .ran))
@@ -174,13 +176,18 @@ lasting {l} started h (chain-next {e = e} g w r) =
     )
 
 -- from any lane at all: once a start was accepted no call gives 21
+pub chain-never-broken : {l d : Words} {es : List Event} → Chain l es d → NeverBroken false es
+chain-never-broken c = lasting false (λ q. absurd (true≢false (sym q))) c
+
 pub never-broken : (l : Words) (es : List Event) (d : Words) → Ran l es d → NeverBroken false es
-never-broken l es d r = lasting false (λ q. absurd (true≢false (sym q))) (ran-gives r)
+never-broken l es d r = chain-never-broken (ran-gives r)
 
 -- a start accepted, then any list, then a call: it does not give 21
 pub started-for-good : (l d : Words) (before : List Event) (e : Event) (between : List Event) (f : Event) (after : List Event)
-    → Ran l (before ++ (e ∷ (between ++ (f ∷ after)))) d → startsLane e ≡ true → ¬ (f .answer .number ≡ 21)
-started-for-good l d before e between f after r starts =
+    → Ran l (before ++ (e ∷ (between ++ (f ∷ after)))) d → (road : Road) (first : ℕ) → e .call ≡ start-call road first → e .answer .number ≡ 0
+    → ¬ (f .answer .number ≡ 21)
+started-for-good l d before e between f after r road first is-start accepted =
+    let starts : startsLane e ≡ true = rw (is-start, accepted) refl in
     let x = later false before _ (never-broken l _ d r) in
     let y = later (x .0 || startsLane e) between _ (x .2 .1) in
     y .2 .0 (y .1 (rw starts (either (x .0))))

@@ -25,12 +25,6 @@ use Rattle.history.specs.Claims.{kindOf, Claims}
 use Rattle.history.specs.History.{Event, seen, Did, Ran, none-yet, then, Wished, Chain, chain-end, chain-next, Throughout}
 use Rattle.history.proofs.Agreement.{Agree, in-order, empty-agrees, step}
 
--- no contract asks anything of its caller
-pub may : (κ : Lfts 1) (κs : Lfts 2) (l : RefT Words) (road : Road) (c : Carrier) (n : ℕ) (ws : List Wish) (out : RefT (List ℕ))
-    → start-reads.Asked κ (l, (road, (n, tt))) × enter-reads.Asked κ (l, (c, tt)) × leave-reads.Asked κ (l, (n, tt))
-    × cycle-reads.Asked κ (l, (n, (ws, tt))) × read-reads.Asked κ (l, (n, tt)) × text-reads.Asked κs (l, (out, tt))
-may κ κs l road c n ws out = (tt, tt, tt, tt, tt, tt)
-
 -- ---- a contract says what the call gives
 
 module _ {x : Call} where

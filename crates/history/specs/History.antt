@@ -28,6 +28,10 @@ pub record Event : Type 0 where
   pub answer : Answer
   pub left : Words
 
+-- the calls of a list
+abbrev pub callsIn : List Event → List Call
+callsIn es = map (λ (e : Event). e .call) es
+
 -- what the book sees of it
 abbrev pub seen : Event → Seen
 seen e = record { call = e .call; refused = not (eqb (e .answer .number) 0); word = e .answer .word }
@@ -86,7 +90,7 @@ AllTyped (x ∷ xs) = Typed (kindOf x) × AllTyped xs
 pub record HistoryOf (l : Words) (xs : List Call) : Type 0 where
   pub events : List Event
   pub last : Words
-  pub calls : map (λ (e : Event). e .call) events ≡ xs
+  pub calls : callsIn events ≡ xs
   pub ran : Ran l events last
 
 -- ---- the same by what a call gives, whichever function makes it

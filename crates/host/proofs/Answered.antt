@@ -5,31 +5,45 @@ use mathlib.Core.Bool.{Bool, true, false, cond}
 use mathlib.Core.List.{List, [], _∷_, _++_}
 use Prim.Native.Nat.{ℕ}
 use borrow.Author.Tests.{eqb-true, eqb-false}
+use contract.Lifetimes.{Lfts}
+use denote.Ref.{RefT, now, at-last}
 use lib.Dec.{eqb}
 use lib.ListN.{drop}
 use Rattle.lane.specs.declared.Carrier.{Carrier}
 use Rattle.lane.specs.declared.Cycled.{Cycled}
+use Rattle.lane.specs.declared.Entered.{Entered}
+use Rattle.lane.specs.declared.Listed.{Listed}
+use Rattle.lane.specs.declared.ReadOut.{ReadOut}
 use Rattle.lane.specs.declared.Road.{Road}
-use Rattle.lane.specs.Layout.{Words, stateOf}
+use Rattle.lane.specs.Layout.{Words, stateOf, emptyWords}
 use Rattle.lane.specs.Calls.{ifAccepted, readyNo}
-use Rattle.lane.specs.Call.{Call, start-call, enter-call, leave-call, cycle-call, read-call, text-call, bare, entered, cycled, readOut, listed, callAnswer}
+use Rattle.lane.specs.Call.{Call, start-call, enter-call, leave-call, cycle-call, read-call, text-call, Answer, bare, entered, cycled, readOut, listed, callAnswer}
 use Rattle.lane.specs.Given.{wishesNo, wishesGiven, GivesWith}
 use Rattle.lane.proofs.Answerable.{gives-some, returned, read-exact}
 use Rattle.history.specs.Book.{begun}
-use Rattle.history.specs.History.{Event, Throughout}
-use Rattle.history.proofs.Answered.{lent, left, gives-as, reads-as, lends, Exact}
-use Rattle.console.specs.History.{blockRun, eventsOf}
+use Rattle.history.specs.History.{Event, callsIn, OfLane, Throughout, NeverBroken}
+use Rattle.history.proofs.Answered.{of-lane, lent, left, gives-as, reads-as, lends, Exact}
+use Rattle.console.specs.declared.Stepped.{Stepped}
+use Rattle.console.specs.History.{blockRun}
 use Rattle.console.proofs.Answered.{every-step}
-use Rattle.host.proofs.Calls.{HostCall, starts, enters, leaves, cycles, reads, lists, steps, made, Cycles, HostDid, HostRan, nothing-yet, call}
-use Rattle.host.proofs.History.{host-history}
+use Rattle.host.proofs.Calls.{HostCall, starts, enters, leaves, cycles, reads, lists, steps, callsMade, eventsMade, stepAnswer, Cycles, Steps, HostDid, HostRan, nothing-yet, call, allMade, Emptied}
+use Rattle.host.proofs.History.{host-history, host-history-from-empty, host-calls, host-never-broken}
+use Rattle.host.proofs.rondavitse_empty.Reads as empty-reads
+use Rattle.host.proofs.rondavitse_start.Reads as start-reads
+use Rattle.host.proofs.rondavitse_enter.Reads as enter-reads
+use Rattle.host.proofs.rondavitse_leave.Reads as leave-reads
+use Rattle.host.proofs.rondavitse_cycle.Reads as cycle-reads
+use Rattle.host.proofs.rondavitse_read.Reads as read-reads
+use Rattle.host.proofs.rondavitse_lane_text.Reads as text-reads
+use Rattle.host.proofs.rondavitse_step.Reads as step-reads
 
--- the calls of the lane that an exported call is, and the lane that it leaves
-pub record Does (x : HostCall) (l : Words) : Type 0 where
-  pub events : List Event
-  pub after : Words
-  pub did : HostDid x l events after
+-- ---- every list has a history
 
--- ---- a cycle, by its wishes
+-- an answer of an exported call, and the lane that it leaves
+record Does (x : HostCall) (l : Words) : Type 0 where
+  answer : Answer
+  after : Words
+  did : HostDid x l answer after
 
 module _ (l : Words) (count : ℕ) (sorts values : List ℕ) where
   abbrev x : Call
@@ -61,48 +75,45 @@ module _ (l : Words) (count : ℕ) (sorts values : List ℕ) where
       let r : Cycled = record { no = unmade-no; word = 0; replaced = 0; gone = 0 } in
       (r, l, cycle-of r l (record { made = λ p. absurd (eqb-false _ 0 e p); unmade = λ n. (refl, refl) }))
 
--- ---- any call
-
 host-does : (x : HostCall) (l : Words) → Does x l
 host-does (starts road first) l =
     let x = start-call road first in
     let r = returned x (stateOf l) in
-    record { events = made x (bare (r .0) []) (left x l); after = left x l; did = lends (r .0, refl, gives-as x l (r .1)) }
+    record { answer = bare (r .0) []; after = left x l; did = lends (r .0, refl, gives-as x l (r .1)) }
 host-does (enters c) l =
     let x = enter-call c in
     let r = returned x (stateOf l) in
-    record { events = made x (entered (r .0)) (left x l); after = left x l; did = lends (r .0, refl, gives-as x l (r .1)) }
+    record { answer = entered (r .0); after = left x l; did = lends (r .0, refl, gives-as x l (r .1)) }
 host-does (leaves number) l =
     let x = leave-call number in
     let r = returned x (stateOf l) in
-    record { events = made x (bare (r .0) []) (left x l); after = left x l; did = lends (r .0, refl, gives-as x l (r .1)) }
+    record { answer = bare (r .0) []; after = left x l; did = lends (r .0, refl, gives-as x l (r .1)) }
 host-does (cycles count sorts values) l =
     let c = cycles-some l count sorts values (eqb (wishesNo count sorts values) 0) refl in
-    record { after = c .1; events = cond (eqb (wishesNo count sorts values) 0) (made (cycle-call count (wishesGiven count sorts values)) (cycled (c .0)) (c .1)) []; did = (c .0, refl, c .2) }
+    record { answer = cycled (c .0); after = c .1; did = (c .0, refl, c .2) }
 host-does (reads number) l =
     let x = read-call number in
     let r = returned x (stateOf l) in
     record {
-      events = made x (readOut (r .0)) (left x l);
+      answer = readOut (r .0);
       after = left x l;
       did = (gives-some x l .2 refl, lends (r .0, refl, (reads-as x l refl (r .1), subst (Exact (stateOf l) number) (r .1) (read-exact (stateOf l) number))));
     }
 host-does (lists buffer) l =
     let x = text-call buffer in
     let r = returned x (stateOf l) in
-    let bytes = callAnswer x (stateOf l) .bytes in
     record {
-      events = made x (listed (r .0) bytes) (left x l);
+      answer = listed (r .0) (callAnswer x (stateOf l) .bytes);
       after = left x l;
       did = (
         gives-some x l .2 refl,
-        record { κs = ([], ([], tt)); lane = lent l; out = lent buffer; before = refl; lent = refl; says = (r .0, bytes, refl, reads-as x l refl (r .1)) },
+        record { κs = ([], ([], tt)); lane = lent l; out = lent buffer; before = refl; lent = refl; says = (r .0, refl, reads-as x l refl (r .1)) },
       );
     }
 host-does (steps input at buffer) l =
     let a = every-step l (drop at input) at buffer in
     record {
-      events = eventsOf (blockRun buffer (drop at input)) l (a .after);
+      answer = stepAnswer (blockRun buffer (drop at input)) (stateOf l);
       after = a .after;
       did = (
         refl,
@@ -132,13 +143,50 @@ every-host-list l [] = record { events = []; last = l; ran = nothing-yet }
 every-host-list l (x ∷ xs) =
     let d = host-does x l in
     let h = every-host-list (d .after) xs in
-    record { events = d .events ++ h .events; last = h .last; ran = call (d .events) (d .did) (h .ran) }
+    record { events = eventsMade x (d .answer) (d .after) ++ h .events; last = h .last; ran = call (d .answer) (d .did) (h .ran) }
 
--- for every list of exported calls from an empty lane there is a history, and what is claimed holds throughout it
-pub every-host-list-claimed : (l : Words) → stateOf l .count ≡ 0 → (xs : List HostCall) → (h : HostHistoryOf l xs) × Throughout (begun l) (h .events)
-every-host-list-claimed l e xs = let h = every-host-list l xs in (h, host-history l e xs (h .events) (h .last) (h .ran))
+-- for every list of exported calls from an empty lane there is a history: its calls are those that the exported ones are, what is claimed holds
+-- throughout, and no call gives 21 after a start
+pub every-host-list-claimed : (l : Words) → stateOf l .count ≡ 0 → (xs : List HostCall)
+    → (h : HostHistoryOf l xs) × (callsIn (h .events) ≡ allMade xs) × Throughout (begun l) (h .events) × NeverBroken false (h .events)
+every-host-list-claimed l e xs =
+    let h = every-host-list l xs in
+    (h, host-calls (h .ran), host-history l e xs (h .events) (h .last) (h .ran), host-never-broken (h .ran))
+
+-- and from the lane that `rondavitse_empty` gives
+pub every-host-list-from-empty : (xs : List HostCall) → Emptied emptyWords × ((h : HostHistoryOf emptyWords xs) × Throughout (begun emptyWords) (h .events))
+every-host-list-from-empty xs =
+    let e : Emptied emptyWords = record { κs = ([], tt); lane = lent []; says = refl } in
+    let h = every-host-list emptyWords xs in
+    (e, (h, host-history-from-empty emptyWords e xs (h .events) (h .last) (h .ran)))
 
 -- each exported call may stand in a list, with any arguments
 pub each-host-call : (l : Words) (road : Road) (first : ℕ) (c : Carrier) (number count : ℕ) (sorts values buffer input : List ℕ) (at : ℕ)
     → HostHistoryOf l (starts road first ∷ enters c ∷ leaves number ∷ cycles count sorts values ∷ reads number ∷ lists buffer ∷ steps input at buffer ∷ [])
 each-host-call l road first c number count sorts values buffer input at = every-host-list l _
+
+-- ---- whatever a contract says is a step of a list
+
+-- for every reference and every argument a contract asks nothing of its caller, and what it then says of an answer and of the lane left is a
+-- step, or for `rondavitse_empty` the beginning of a list; and every step may go before every list
+pub each-contract : (κ : Lfts 1) (κs : Lfts 2) (ks : Lfts 3) (l : RefT Words) (m : Words) (road : Road) (c : Carrier) (n : ℕ) (sorts values text out : RefT (List ℕ)) (at : ℕ)
+    → (empty-reads.Asked κ (l, tt) × (empty-reads.Learnt κ (l, tt) tt (at-last l m, tt) → Emptied m))
+    × (start-reads.Asked κ (l, (road, (n, tt))) × ((no : ℕ) → start-reads.Learnt κ (l, (road, (n, tt))) no (at-last l m, (road, (n, tt))) → HostDid (starts road n) (now l) (bare no []) m))
+    × (enter-reads.Asked κ (l, (c, tt)) × ((r : Entered) → enter-reads.Learnt κ (l, (c, tt)) r (at-last l m, (c, tt)) → HostDid (enters c) (now l) (entered r) m))
+    × (leave-reads.Asked κ (l, (n, tt)) × ((no : ℕ) → leave-reads.Learnt κ (l, (n, tt)) no (at-last l m, (n, tt)) → HostDid (leaves n) (now l) (bare no []) m))
+    × (cycle-reads.Asked ks (l, (n, (sorts, (values, tt)))) × ((r : Cycled) → cycle-reads.Learnt ks (l, (n, (sorts, (values, tt)))) r (at-last l m, (n, (sorts, (values, tt)))) → HostDid (cycles n (now sorts) (now values)) (now l) (cycled r) m))
+    × (read-reads.Asked κ (l, (n, tt)) × ((r : ReadOut) → read-reads.Learnt κ (l, (n, tt)) r (l, (n, tt)) → HostDid (reads n) (now l) (readOut r) (now l)))
+    × (text-reads.Asked κs (l, (out, tt)) × ((r : Listed) (bytes : List ℕ) → text-reads.Learnt κs (l, (out, tt)) r (l, (at-last out bytes, tt)) → HostDid (lists (now out)) (now l) (listed r bytes) (now l)))
+    × (step-reads.Asked ks (l, (text, (at, (out, tt)))) × ((r : Stepped) (left : List ℕ) → step-reads.Learnt ks (l, (text, (at, (out, tt)))) r (at-last l m, (text, (at, (at-last out left, tt)))) → HostDid (steps (now text) at (now out)) (now l) (stepAnswer (blockRun (now out) (drop at (now text))) (stateOf (now l))) m))
+    × ((x : HostCall) (a : Answer) (xs : List HostCall) (fs : List Event) (d : Words) → HostDid x (now l) a m → HostRan m xs fs d → HostRan (now l) (x ∷ xs) (eventsMade x a m ++ fs) d)
+each-contract κ κs ks l m road c n sorts values text out at = (
+  (tt, λ s. record { κs = κ; lane = l; says = s }),
+  (tt, λ no s. of-lane κ l (no, refl, s)),
+  (tt, λ r s. of-lane κ l (r, refl, s)),
+  (tt, λ no s. of-lane κ l (no, refl, s)),
+  (tt, λ r s. (r, refl, record { κs = ks; lane = l; of-sorts = sorts; of-values = values; before = refl; sorts-are = refl; values-are = refl; says = s })),
+  (tt, λ r s. (refl, of-lane κ l (r, refl, s))),
+  (tt, λ r bytes s. (refl, record { κs = κs; lane = l; out = out; before = refl; lent = refl; says = (r, refl, s) })),
+  (tt, λ r left s. (refl, record { κs = ks; lane = l; text = text; out = out; before = refl; text-is = refl; lent = refl; r = r; left = left; says = s })),
+  λ x a xs fs d h r. call a h r,
+)

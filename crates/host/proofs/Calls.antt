@@ -2,7 +2,7 @@
 -- cannot be made and a step that runs no block, which leave the lane as it was and are none.
 use mathlib.Core.Path.{_≡_}
 use mathlib.Core.Bool.{cond}
-use mathlib.Core.List.{List, [], _∷_, _++_}
+use mathlib.Core.List.{List, [], _∷_, _++_, map}
 use Prim.Native.Nat.{ℕ}
 use contract.Lifetimes.{Lfts}
 use denote.Ref.{RefT, now, at-last}
@@ -14,11 +14,13 @@ use Rattle.lane.specs.declared.Entered.{Entered}
 use Rattle.lane.specs.declared.Listed.{Listed}
 use Rattle.lane.specs.declared.ReadOut.{ReadOut}
 use Rattle.lane.specs.declared.Road.{Road}
-use Rattle.lane.specs.Layout.{Words}
-use Rattle.lane.specs.Call.{Call, start-call, enter-call, leave-call, cycle-call, read-call, text-call, Answer, bare, entered, cycled, readOut, listed}
+use Rattle.lane.specs.State.{State}
+use Rattle.lane.specs.Layout.{Words, stateOf}
+use Rattle.lane.specs.Call.{Call, start-call, enter-call, leave-call, cycle-call, read-call, text-call, Answer, bare, callAnswer, entered, cycled, readOut, listed}
 use Rattle.lane.specs.Given.{wishesNo, wishesGiven}
 use Rattle.console.specs.declared.Stepped.{Stepped}
-use Rattle.console.specs.History.{blockRun, eventsOf}
+use Rattle.console.specs.Blocks.{Parsed, parsed, malformed}
+use Rattle.console.specs.History.{blockRun, callsWith}
 use Rattle.history.specs.History.{Event, OfLane, OfBoth}
 use Rattle.host.proofs.rondavitse_empty.Reads as empty-reads
 use Rattle.host.proofs.rondavitse_start.Reads as start-reads
@@ -39,9 +41,19 @@ pub data HostCall : Type 0 where
   lists : (buffer : List ℕ) → HostCall
   steps : (input : List ℕ) → (at : ℕ) → (buffer : List ℕ) → HostCall
 
--- the lane's call that it is
-abbrev pub made : Call → Answer → (left : Words) → List Event
-made x a left = record { call = x; answer = a; left = left } ∷ []
+-- the calls of the lane that it is, one or none: of a step that of its block, of a cycle one with the wishes that are given, where they can be made
+abbrev pub callsMade : HostCall → List Call
+callsMade (starts road first) = start-call road first ∷ []
+callsMade (enters c) = enter-call c ∷ []
+callsMade (leaves number) = leave-call number ∷ []
+callsMade (cycles count sorts values) = cond (eqb (wishesNo count sorts values) 0) (cycle-call count (wishesGiven count sorts values) ∷ []) []
+callsMade (reads number) = read-call number ∷ []
+callsMade (lists buffer) = text-call buffer ∷ []
+callsMade (steps input at buffer) = callsWith (blockRun buffer (drop at input)) (λ used. [])
+
+-- those calls, answered so, with the lane that was left
+abbrev pub eventsMade : HostCall → Answer → (left : Words) → List Event
+eventsMade x a left = map (λ (y : Call). record { call = y; answer = a; left = left }) (callsMade x)
 
 -- what the contract of `rondavitse_cycle` says of a lane and two arrays of numbers behind references
 pub record Cycles (l : Words) (count : ℕ) (sorts values : List ℕ) (r : Cycled) (m : Words) : Type 0 where
@@ -67,32 +79,38 @@ pub record Steps (l : Words) (input : List ℕ) (at : ℕ) (buffer : List ℕ) (
   pub left : List ℕ
   pub says : step-reads.Learnt κs (lane, (text, (at, (out, tt)))) r (at-last lane m, (text, (at, (at-last out left, tt))))
 
--- what the contract of the exported function says, and the calls of the lane that this is
-abbrev pub HostDid : HostCall → Words → List Event → Words → Type 0
-HostDid (starts road first) l es m =
-    OfLane l λ κs lane. (no : ℕ) × (es ≡ made (start-call road first) (bare no []) m) × start-reads.Learnt κs (lane, (road, (first, tt))) no (at-last lane m, (road, (first, tt)))
-HostDid (enters c) l es m =
-    OfLane l λ κs lane. (r : Entered) × (es ≡ made (enter-call c) (entered r) m) × enter-reads.Learnt κs (lane, (c, tt)) r (at-last lane m, (c, tt))
-HostDid (leaves number) l es m =
-    OfLane l λ κs lane. (no : ℕ) × (es ≡ made (leave-call number) (bare no []) m) × leave-reads.Learnt κs (lane, (number, tt)) no (at-last lane m, (number, tt))
-HostDid (cycles count sorts values) l es m =
-    (r : Cycled)
-    × (es ≡ cond (eqb (wishesNo count sorts values) 0) (made (cycle-call count (wishesGiven count sorts values)) (cycled r) m) [])
-    × Cycles l count sorts values r m
-HostDid (reads number) l es m =
-    (m ≡ l) × OfLane l (λ κs lane. (r : ReadOut) × (es ≡ made (read-call number) (readOut r) m) × read-reads.Learnt κs (lane, (number, tt)) r (lane, (number, tt)))
-HostDid (lists buffer) l es m =
+-- what a step answers to the call of its block, in print: what the definitions give
+abbrev pub stepAnswer : Parsed → State → Answer
+stepAnswer (parsed x used) s = callAnswer x s
+stepAnswer malformed s = bare 0 []
+
+-- what the contract of the exported function says of its arguments, its answer and the lane that it left
+abbrev pub HostDid : HostCall → Words → Answer → Words → Type 0
+HostDid (starts road first) l a m =
+    OfLane l λ κs lane. (no : ℕ) × (a ≡ bare no []) × start-reads.Learnt κs (lane, (road, (first, tt))) no (at-last lane m, (road, (first, tt)))
+HostDid (enters c) l a m =
+    OfLane l λ κs lane. (r : Entered) × (a ≡ entered r) × enter-reads.Learnt κs (lane, (c, tt)) r (at-last lane m, (c, tt))
+HostDid (leaves number) l a m =
+    OfLane l λ κs lane. (no : ℕ) × (a ≡ bare no []) × leave-reads.Learnt κs (lane, (number, tt)) no (at-last lane m, (number, tt))
+HostDid (cycles count sorts values) l a m = (r : Cycled) × (a ≡ cycled r) × Cycles l count sorts values r m
+HostDid (reads number) l a m =
+    (m ≡ l) × OfLane l (λ κs lane. (r : ReadOut) × (a ≡ readOut r) × read-reads.Learnt κs (lane, (number, tt)) r (lane, (number, tt)))
+HostDid (lists buffer) l a m =
     (m ≡ l)
-    × OfBoth l buffer (λ κs lane out. (r : Listed) × (bytes : List ℕ) × (es ≡ made (text-call buffer) (listed r bytes) m)
-    × text-reads.Learnt κs (lane, (out, tt)) r (lane, (at-last out bytes, tt)))
-HostDid (steps input at buffer) l es m = (es ≡ eventsOf (blockRun buffer (drop at input)) l m) × Steps l input at buffer m
+    × OfBoth l buffer (λ κs lane out. (r : Listed) × (a ≡ listed r (a .bytes)) × text-reads.Learnt κs (lane, (out, tt)) r (lane, (at-last out (a .bytes), tt)))
+HostDid (steps input at buffer) l a m = (a ≡ stepAnswer (blockRun buffer (drop at input)) (stateOf l)) × Steps l input at buffer m
 
 -- a list of exported calls, each on the lane that the one before left and answered as its contract says, and the calls of the lane that
 -- they are
 pub data HostRan : Words → List HostCall → List Event → Words → Type 0 where
   nothing-yet : {l : Words} → HostRan l [] [] l
-  call : {l m d : Words} {x : HostCall} {xs : List HostCall} (es : List Event) {fs : List Event} → HostDid x l es m → HostRan m xs fs d
-      → HostRan l (x ∷ xs) (es ++ fs) d
+  call : {l m d : Words} {x : HostCall} {xs : List HostCall} {fs : List Event} (a : Answer) → HostDid x l a m → HostRan m xs fs d
+      → HostRan l (x ∷ xs) (eventsMade x a m ++ fs) d
+
+-- the calls of the lane that they are
+abbrev pub allMade : List HostCall → List Call
+allMade [] = []
+allMade (x ∷ xs) = callsMade x ++ allMade xs
 
 -- what the contract of `rondavitse_empty` says of the lane with which a list begins
 pub record Emptied (l : Words) : Type 0 where

@@ -1,60 +1,61 @@
 -- The theorem over histories, of the functions that a host calls, text steps among them.
-use mathlib.Core.Path.{_≡_, refl, _∙_, subst}
+use mathlib.Core.Path.{_≡_, refl, ap, _∙_, subst}
 use mathlib.Core.Bool.{Bool, true, false, cond}
-use mathlib.Core.List.{List, [], _++_}
+use mathlib.Core.List.{List, [], _∷_, _++_, map}
 use Prim.Native.Nat.{ℕ}
 use borrow.Author.Tests.{eqb-true, eqb-false}
 use denote.Ref.{now}
 use lib.Dec.{eqb}
 use lib.ListN.{drop}
-use Rattle.lane.specs.declared.Cycled.{Cycled}
 use Rattle.lane.specs.Layout.{Words, stateOf, emptyWords}
-use Rattle.lane.specs.Call.{Call, cycle-call, text-call, Answer, cycled, listed, Gives}
+use Rattle.lane.specs.Call.{Call, cycle-call, text-call, Answer, cycled, Gives}
 use Rattle.lane.specs.Given.{wishesNo, wishesGiven, GivesWith}
 use Rattle.lane.proofs.Laws.{wishes-enough}
 use Rattle.history.specs.Book.{begun}
-use Rattle.history.specs.Claims.{kindOf}
-use Rattle.history.specs.History.{Event, Wished, Chain, chain-end, chain-next, Throughout}
+use Rattle.history.specs.History.{Event, callsIn, Chain, chain-end, chain-next, Throughout, NeverBroken}
 use Rattle.history.proofs.History.{given-of, read-of, chain-history}
+use Rattle.history.proofs.Consequences.{chain-never-broken}
+use Rattle.console.specs.Blocks.{Parsed, parsed, malformed}
+use Rattle.console.specs.History.{blockRun, eventsOf, callsWith}
 use Rattle.console.proofs.Calls.{step-chain}
-use Rattle.host.proofs.Calls.{HostCall, starts, enters, leaves, cycles, reads, lists, steps, made, Cycles, HostDid, HostRan, nothing-yet, call, Emptied}
+use Rattle.host.proofs.Calls.{HostCall, starts, enters, leaves, cycles, reads, lists, steps, callsMade, eventsMade, stepAnswer, HostDid, HostRan, nothing-yet, call, allMade, Emptied}
 
--- a call of the lane before a list of calls
-one-made : {x : Call} {l m d : Words} {a : Answer} {es fs : List Event} → es ≡ made x a m → Gives x l a m → Wished (kindOf x) → Chain m fs d
-    → Chain l (es ++ fs) d
-one-made {x} {l} {m} {d} {a} {fs = fs} e g w c = rw e (chain-next {e = record { call = x; answer = a; left = m }} g w c)
-
--- a cycle by its wishes: those that cannot be made are no call
-one-cycle : (count : ℕ) (sorts values : List ℕ) {l m d : Words} {r : Cycled} {es fs : List Event}
-    → es ≡ cond (eqb (wishesNo count sorts values) 0) (made (cycle-call count (wishesGiven count sorts values)) (cycled r) m) []
-    → Cycles l count sorts values r m → Chain m fs d → Chain l (es ++ fs) d
-one-cycle count sorts values {l} {m} {d} {r} {es} {fs} e c k = by-test (eqb (wishesNo count sorts values) 0) refl e
+-- a cycle by its wishes: one whose wishes cannot be made is no call
+one-cycle : (count : ℕ) (sorts values : List ℕ) {l m d : Words} {a : Answer} {fs : List Event} → HostDid (cycles count sorts values) l a m → Chain m fs d
+    → Chain l (eventsMade (cycles count sorts values) a m ++ fs) d
+one-cycle count sorts values {l} {m} {d} {a} {fs} (r, e, c) k = by-test (eqb (wishesNo count sorts values) 0) refl
   where
     told : GivesWith (now (c .lane)) count sorts values (cycled r) m
     told = rw (c .sorts-are, c .values-are) at (c .says)
 
     by-test : (t : Bool) → eqb (wishesNo count sorts values) 0 ≡ t
-        → es ≡ cond t (made (cycle-call count (wishesGiven count sorts values)) (cycled r) m) [] → Chain l (es ++ fs) d
-    by-test true p e =
-        one-made e (given-of (c .before) refl (told .made (eqb-true _ 0 p))) (λ h. wishes-enough count sorts values (eqb-true _ 0 p)) k
-    by-test false p e = rw e (subst (λ (n : Words). Chain n fs d) (told .unmade (eqb-false _ 0 p) .1 ∙ c .before) k)
+        → Chain l (map (λ (y : Call). record { call = y; answer = a; left = m }) (cond t (cycle-call count (wishesGiven count sorts values) ∷ []) []) ++ fs) d
+    by-test true p =
+        chain-next (given-of (c .before) e (told .made (eqb-true _ 0 p))) (λ h. wishes-enough count sorts values (eqb-true _ 0 p)) k
+    by-test false p = subst (λ (n : Words). Chain n fs d) (told .unmade (eqb-false _ 0 p) .1 ∙ c .before) k
 
-one-call : (x : HostCall) {l m d : Words} (es : List Event) {fs : List Event} → HostDid x l es m → Chain m fs d → Chain l (es ++ fs) d
-one-call (starts road first) es h c = one-made (h .says .1) (given-of (h .before) refl (h .says .2)) tt c
-one-call (enters c) es h k = one-made (h .says .1) (given-of (h .before) refl (h .says .2)) tt k
-one-call (leaves number) es h c = one-made (h .says .1) (given-of (h .before) refl (h .says .2)) tt c
-one-call (cycles count sorts values) es h c = one-cycle count sorts values (h .1) (h .2) c
-one-call (reads number) es h c = one-made (h .1 .says .1) (read-of (h .0) (h .1 .before) refl (h .1 .says .2 .0)) tt c
-one-call (lists buffer) es h c =
-    let g = subst (λ (b : List ℕ). Gives (text-call b) (now (h .1 .lane)) (listed (h .1 .says .0) (h .1 .says .1)) (now (h .1 .lane))) (h .1 .lent) (h .1 .says .3) in
-    one-made (h .1 .says .2) (read-of (h .0) (h .1 .before) refl g) tt c
-one-call (steps input at buffer) {l} {m} {d} es {fs} h c =
-    let g = rw (h .1 .before, h .1 .text-is, h .1 .lent) at (h .1 .says) in
-    rw (h .0) (step-chain l m d (drop at input) fs g c)
+-- a step's event, as console has it
+step-event : (p : Parsed) (l m : Words)
+    → eventsOf p l m ≡ map (λ (y : Call). record { call = y; answer = stepAnswer p (stateOf l); left = m }) (callsWith p (λ used. []))
+step-event (parsed x used) l m = refl
+step-event malformed l m = refl
+
+one-call : (x : HostCall) {l m d : Words} (a : Answer) {fs : List Event} → HostDid x l a m → Chain m fs d → Chain l (eventsMade x a m ++ fs) d
+one-call (starts road first) a h c = chain-next (given-of (h .before) (h .says .1) (h .says .2)) tt c
+one-call (enters c) a h k = chain-next (given-of (h .before) (h .says .1) (h .says .2)) tt k
+one-call (leaves number) a h c = chain-next (given-of (h .before) (h .says .1) (h .says .2)) tt c
+one-call (cycles count sorts values) a h c = one-cycle count sorts values h c
+one-call (reads number) a h c = chain-next (read-of (h .0) (h .1 .before) (h .1 .says .1) (h .1 .says .2 .0)) tt c
+one-call (lists buffer) {l} {m} a h c =
+    let g = read-of (h .0) (h .1 .before) (h .1 .says .1) (h .1 .says .2) in
+    chain-next (subst (λ (b : List ℕ). Gives (text-call b) l a m) (h .1 .lent) g) tt c
+one-call (steps input at buffer) {l} {m} {d} a {fs} (e, s) c =
+    let g = rw (s .before, s .text-is, s .lent) at (s .says) in
+    rw (e, ← step-event (blockRun buffer (drop at input)) l m) (step-chain l m d (drop at input) fs g c)
 
 is-chain : {l d : Words} {xs : List HostCall} {es : List Event} → HostRan l xs es d → Chain l es d
 is-chain nothing-yet = chain-end
-is-chain (call {x = x} es h r) = one-call x es h (is-chain r)
+is-chain (call {x = x} a h r) = one-call x a h (is-chain r)
 
 -- demand 3 for every list of exported calls from an empty lane
 pub host-history : (l : Words) → stateOf l .count ≡ 0 → (xs : List HostCall) (es : List Event) (d : Words) → HostRan l xs es d → Throughout (begun l) es
@@ -63,3 +64,17 @@ host-history l e xs es d r = chain-history l e es d (is-chain r)
 -- and from the lane that `rondavitse_empty` gives
 pub host-history-from-empty : (l : Words) → Emptied l → (xs : List HostCall) (es : List Event) (d : Words) → HostRan l xs es d → Throughout (begun emptyWords) es
 host-history-from-empty l e xs es d r = subst (λ (k : Words). Throughout (begun k) es) (e .says) (host-history l (rw (e .says) refl) xs es d r)
+
+-- the calls of the lane are those that the exported calls are, refused or not
+pub host-calls : {l d : Words} {xs : List HostCall} {es : List Event} → HostRan l xs es d → callsIn es ≡ allMade xs
+host-calls nothing-yet = refl
+host-calls (call {m = m} {x = x} {fs = fs} a h r) = same-calls (callsMade x) a m fs ∙ ap (λ (ys : List Call). callsMade x ++ ys) (host-calls r)
+  where
+    same-calls : (ys : List Call) (a : Answer) (m : Words) (fs : List Event)
+        → callsIn (map (λ (y : Call). record { call = y; answer = a; left = m }) ys ++ fs) ≡ ys ++ callsIn fs
+    same-calls [] a m fs = refl
+    same-calls (y ∷ ys) a m fs = ap (λ (zs : List Call). y ∷ zs) (same-calls ys a m fs)
+
+-- and once a start was accepted no call gives 21
+pub host-never-broken : {l d : Words} {xs : List HostCall} {es : List Event} → HostRan l xs es d → NeverBroken false es
+host-never-broken r = chain-never-broken (is-chain r)
