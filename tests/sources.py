@@ -3,6 +3,7 @@
 The texts are cut by the languages' own rules of comments, names and layout, so that no way of writing a line hides it from a script.
 """
 import functools
+import itertools
 import pathlib
 import re
 from dataclasses import dataclass, field
@@ -66,6 +67,10 @@ def rattle_code(text):
             parts.append(token)
         at = end
     return "".join(parts)
+
+
+def indent(line):
+    return len(line) - len(line.lstrip())
 
 
 def plain(name):
@@ -150,7 +155,7 @@ def items(code):
     for number, line in enumerate(code.split("\n"), 1):
         if not line.strip():
             continue
-        column = len(line) - len(line.lstrip())
+        column = indent(line)
         if opening and (not columns or column > columns[-1]):
             columns.append(column)
         elif column > columns[-1] or unclosed(current[1]):
@@ -189,6 +194,23 @@ class Module(InCrate):
     children: list = field(default_factory=list)
     public_children: list = field(default_factory=list)
     declarations: list = field(default_factory=list)
+
+    def blocks_around(self, line):
+        """The heads of the `module` blocks in which a line stands, outermost first: what they bind is part of a statement."""
+        lines, heads = self.code.split("\n"), []
+        column = indent(lines[line - 1])
+        for at in range(line - 2, -1, -1):
+            if lines[at].strip() and indent(lines[at]) < column:
+                column = indent(lines[at])
+                heads.insert(0, re.match(r"module\s.*?\swhere\b", "\n".join(lines[at:]).lstrip(), re.S))
+        return [head[0] for head in heads if head]
+
+    def statement(self, declaration):
+        """A declaration's signature with the heads of the blocks around it, in one line of single spaces. Quoted texts are as written."""
+        lines = self.path.read_text().split("\n")[declaration.line - 1 :]
+        under = itertools.takewhile(lambda line: line.strip() and indent(line) > indent(lines[0]), lines[1:])
+        signature = re.sub(r"^(?:(?:pub|unfoldable|abbrev)\s+)*", "", " ".join([lines[0], *under]).strip())
+        return " ".join(" ".join([*self.blocks_around(declaration.line), signature]).split())
 
     def declared(self, name):
         """The declaration of that name. A name that a `use` line brings is none, whatever a `where` block calls so."""

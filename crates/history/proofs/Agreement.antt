@@ -11,7 +11,7 @@ use Rattle.lane.specs.State.{State}
 use Rattle.lane.specs.Layout.{Words, stateOf}
 use Rattle.lane.specs.Call.{Call, start-call, enter-call, leave-call, cycle-call, read-call, text-call, callNo, callAnswer, callState, Kept}
 use Rattle.lane.proofs.CallLaws.{refused-changes-nothing, answer-number, accepted-keeps, kept-in-order, start-accepted, enter-accepted, leave-accepted, read-accepted, text-accepted}
-use Rattle.lane.proofs.CycleLaws.{CycleRun, cycle-accepted, cycle-runs}
+use Rattle.lane.proofs.CycleLaws.{cycle-accepted, cycle-runs}
 use Rattle.history.specs.Book.{Book, begun, holding, taken, booked}
 use Rattle.history.specs.Claims.{InOrder, Kind, begins, runs, other, kindOf, CycleClaims}
 use Rattle.history.specs.History.{Wished}

@@ -1,7 +1,7 @@
 -- What a reader may take from `history`: at each call of the list, and in plain words; and that a lane once started never breaks a rule.
 use mathlib.Core.Path.{_≡_, refl, sym, ap, _∙_, subst}
 use mathlib.Core.Bool.{Bool, true, false, not, _&&_, _||_, true≢false}
-use mathlib.Core.List.{List, [], _∷_, _++_, map}
+use mathlib.Core.List.{List, [], _∷_, _++_}
 use Prim.Native.Nat.{ℕ, suc, _-_, _*_, _/_, _%_, _^_, _≤_, _<_}
 use native.Mathlib.Nat.{div-one}
 use native.Mathlib.Omega.{arith}
@@ -25,7 +25,7 @@ use Rattle.lane.specs.Call.{Call, start-call, cycle-call, read-call, Answer, ca
 use Rattle.lane.proofs.CallLaws.{answer-number, kept-not-21}
 use Rattle.history.specs.Book.{Seen, Book, begun, trimmedIn, drivenIn, booked}
 use Rattle.history.specs.Claims.{Kind, begins, runs, other, kindOf, carrierAt, placeAt, restsLevelOrCrossed, Claims}
-use Rattle.history.specs.History.{Event, callsIn, seen, Ran, Typed, AllTyped, HistoryOf, startsLane, Chain, chain-end, chain-next, Throughout, NeverBroken}
+use Rattle.history.specs.History.{Event, callsIn, seen, Ran, Typed, AllTyped, startsLane, Chain, chain-end, chain-next, Throughout, NeverBroken}
 use Rattle.history.proofs.Bits.{below-power}
 use Rattle.history.proofs.Books.{driven-at-least}
 use Rattle.history.proofs.Lasting.{goes-on}

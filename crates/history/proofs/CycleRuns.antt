@@ -7,12 +7,11 @@ use native.Mathlib.Omega.{arith}
 use borrow.Author.Tests.{ltb-true}
 use lib.Dec.{ltb}
 use lib.IntN.{ℤ, pos}
-use lib.ListN.{length, getD}
+use lib.ListN.{length}
 use lib.Seq.{ext-getD}
 use Rattle.headway.specs.Stopping.{braking}
 use Rattle.headway.specs.Wishes.{restsBehind}
 use Rattle.wish.specs.declared.Wish.{Wish}
-use Rattle.wish.specs.declared.Wish.the-variants.{Hold}
 use Rattle.lane.specs.declared.Carrier.{Carrier}
 use Rattle.lane.specs.Surface.{rowIn}
 use Rattle.lane.specs.Safety.{guaranteedRate, reachTo}

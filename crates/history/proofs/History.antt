@@ -1,25 +1,11 @@
 -- Demand 3, whole: `history`, one theorem over every list of calls. Its words are those of `specs`; a call's answer is what the called
 -- function's own contract says of it.
-use Prim.Native.Nat.{ℕ, _≤_}
+use Prim.Native.Nat.{ℕ}
 use native.Mathlib.Omega.{arith}
-use mathlib.Core.Path.{_≡_, refl, sym, ap, subst}
-use mathlib.Core.Bool.{not}
+use mathlib.Core.Path.{_≡_, sym, ap, subst}
 use mathlib.Core.List.{List}
-use contract.Lifetimes.{Lfts}
-use denote.Ref.{RefT, now}
-use lib.Dec.{eqb}
-use Rattle.wish.specs.declared.Wish.{Wish}
-use Rattle.lane.specs.declared.Carrier.{Carrier}
-use Rattle.lane.specs.declared.Road.{Road}
-use Rattle.lane.specs.State.{State}
 use Rattle.lane.specs.Layout.{Words, stateOf}
-use Rattle.lane.specs.Call.{Call, start-call, enter-call, leave-call, cycle-call, read-call, text-call, Answer, callAnswer, Gives}
-use Rattle.lane.proofs.start.Reads as start-reads
-use Rattle.lane.proofs.enter.Reads as enter-reads
-use Rattle.lane.proofs.leave.Reads as leave-reads
-use Rattle.lane.proofs.cycle.Reads as cycle-reads
-use Rattle.lane.proofs.read.Reads as read-reads
-use Rattle.lane.proofs.lane_text.Reads as text-reads
+use Rattle.lane.specs.Call.{Call, start-call, enter-call, leave-call, cycle-call, read-call, text-call, Answer, Gives}
 use Rattle.history.specs.Book.{Book, begun, booked}
 use Rattle.history.specs.Claims.{kindOf, Claims}
 use Rattle.history.specs.History.{Event, seen, Did, Ran, none-yet, then, Wished, Chain, chain-end, chain-next, Throughout}

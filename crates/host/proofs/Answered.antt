@@ -1,7 +1,7 @@
 -- NO LIST IS LEFT OUT: every list of exported calls, with any arguments and on every lane, has a history, in which each is answered as the contract
 -- of its function says.
 use mathlib.Core.Path.{_≡_, refl, subst}
-use mathlib.Core.Bool.{Bool, true, false, cond}
+use mathlib.Core.Bool.{Bool, true, false}
 use mathlib.Core.List.{List, [], _∷_, _++_}
 use Prim.Native.Nat.{ℕ}
 use borrow.Author.Tests.{eqb-true, eqb-false}
@@ -21,12 +21,12 @@ use Rattle.lane.specs.Call.{Call, start-call, enter-call, leave-call, cycle-cal
 use Rattle.lane.specs.Given.{wishesNo, wishesGiven, GivesWith}
 use Rattle.lane.proofs.Answerable.{gives-some, returned, read-exact}
 use Rattle.history.specs.Book.{begun}
-use Rattle.history.specs.History.{Event, callsIn, OfLane, Throughout, NeverBroken}
+use Rattle.history.specs.History.{Event, callsIn, Throughout, NeverBroken}
 use Rattle.history.proofs.Answered.{of-lane, lent, left, gives-as, reads-as, lends, Exact}
 use Rattle.console.specs.declared.Stepped.{Stepped}
 use Rattle.console.specs.History.{blockRun}
 use Rattle.console.proofs.Answered.{every-step}
-use Rattle.host.proofs.Calls.{HostCall, starts, enters, leaves, cycles, reads, lists, steps, callsMade, eventsMade, stepAnswer, Cycles, Steps, HostDid, HostRan, nothing-yet, call, allMade, Emptied}
+use Rattle.host.proofs.Calls.{HostCall, starts, enters, leaves, cycles, reads, lists, steps, eventsMade, stepAnswer, Cycles, HostDid, HostRan, nothing-yet, call, allMade, Emptied}
 use Rattle.host.proofs.History.{host-history, host-history-from-empty, host-calls, host-never-broken}
 use Rattle.host.proofs.rondavitse_empty.Reads as empty-reads
 use Rattle.host.proofs.rondavitse_start.Reads as start-reads
