@@ -3,7 +3,7 @@ use Prim.Native.Nat.{ℕ, zero, suc, _+_, _-_, _≤_}
 use mathlib.Core.Path.{_≡_}
 use mathlib.Core.Bool.{Bool, true, false, cond}
 use mathlib.Core.List.{List, [], _∷_, _++_}
-use lib.Ieee.{Float, binary32, ofBits}
+use lib.Ieee.{Float}
 use lib.ListN.{length, drop, replicate}
 use Rattle.text.specs.declared.numbers.Number.{Number}
 use Rattle.text.specs.declared.numbers.Number.the-variants as number
@@ -11,6 +11,7 @@ use Rattle.text.specs.declared.numbers.Signed.{Signed}
 use Rattle.text.specs.declared.numbers.Signed.the-variants as signed
 use Rattle.text.specs.Ascii.{ascii}
 use Rattle.text.specs.Fields.{lineLength, startsWith, lineValue, isWord, fieldIn, isNumber, valueIn, signedIn, bitsIn}
+use Rattle.wish.specs.Patterns.{floatOf}
 use Rattle.wish.specs.declared.Wish.{Wish}
 use Rattle.wish.specs.declared.Wish.the-variants.{Units, Acceleration, TargetSpeed, Hold}
 use Rattle.lane.specs.Limits.{mostCarriers, longestText}
@@ -76,7 +77,7 @@ unitsWanted signed.Malformed = Nothing
 
 -- "`accel:` or `speed:` and the float's bits"
 abbrev pub floatWanted : (Float → Wish) → Number → Want
-floatWanted f (number.Is n) = Wanted (f (ofBits binary32 n))
+floatWanted f (number.Is n) = Wanted (f (floatOf n))
 floatWanted f number.Malformed = Nothing
 
 -- "`units:` and a number, `accel:` or `speed:` and the float's bits as eight upper-case hexadecimal digits, or `hold`"

@@ -36,7 +36,7 @@ fn float_wanted(digits: &[u8], acceleration: bool) -> Want
 {
     match text::read_bits(digits) {
         Number::Is(n) => {
-            let x = text::float_of(n as u32);
+            let x = wish::float_of(n as u32);
             if acceleration {
                 return Want::Wanted(Wish::Acceleration(x));
             }

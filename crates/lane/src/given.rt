@@ -38,10 +38,10 @@ fn make(sort: u8, value: u32) -> Made
         return make_units(value);
     }
     if sort == 1 {
-        return Made::Of(Wish::Acceleration(text::float_of(value)));
+        return Made::Of(Wish::Acceleration(wish::float_of(value)));
     }
     if sort == 2 {
-        return Made::Of(Wish::TargetSpeed(text::float_of(value)));
+        return Made::Of(Wish::TargetSpeed(wish::float_of(value)));
     }
     if sort == 3 {
         return Made::Of(Wish::Hold);

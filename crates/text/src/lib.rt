@@ -16,7 +16,6 @@ pub use lines::put_hexadecimal_line;
 pub use numbers::Number;
 pub use numbers::Signed;
 pub use numbers::decimal_length;
-pub use numbers::float_of;
 pub use numbers::read_bits;
 pub use numbers::read_number;
 pub use numbers::read_signed;

@@ -3,7 +3,6 @@ ghost use mathlib.Core.Path.{_≡_};
 ghost use mathlib.Core.Bool.{_&&_, cond};
 ghost use Prim.Native.Nat.{_+_, _≤_, _<_};
 ghost use lib.Dec.{leb};
-ghost use lib.Ieee.{binary32, ofBits};
 ghost use lib.ListN.{length};
 ghost use Rattle.text.specs.Numbers.{digit as digitOf, digits, decimal};
 ghost use Rattle.text.specs.Lines.{written};
@@ -166,15 +165,4 @@ pub fn read_bits(digits: &[u8]) -> Number
         return Number::Malformed;
     }
     read_digits(digits, 16, 0xFFFF_FFFF)
-}
-
-// The float of a bit pattern. `f32::from_bits` leaves a NaN's patterns open, so they are told apart first.
-pub fn float_of(bits: u32) -> f32
-    ensures { λ r. ⌜ r ≡ ofBits binary32 bits ⌝ }
-{
-    if bits % 0x8000_0000 > 0x7F80_0000 {
-        0.0 / 0.0
-    } else {
-        f32::from_bits(bits)
-    }
 }

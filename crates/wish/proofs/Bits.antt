@@ -11,11 +11,11 @@ use lib.Ieee.Bits.{ofBits-toBits}
 use lib.Ieee.Exact.{HasValue, odd-sign}
 use Rattle.wish.proofs.Values.{pow-le-back, AtMost, rescale, value-at-most}
 
-ofBits-is : (b : ℕ) → ofBits binary32 b ≡ ofFields binary32 (leb 2147483648 b) (b % 2147483648 / 8388608) (b % 8388608)
+pub ofBits-is : (b : ℕ) → ofBits binary32 b ≡ ofFields binary32 (leb 2147483648 b) (b % 2147483648 / 8388608) (b % 8388608)
 unfolding ofBits
 ofBits-is b = refl
 
-low-field : (s : Bool) (t : ℕ) → HasValue (ofFields binary32 s 0 t) s t (2 ^ 149)
+pub low-field : (s : Bool) (t : ℕ) → HasValue (ofFields binary32 s 0 t) s t (2 ^ 149)
 unfolding ofFields
 low-field s t = subst (λ (x : ℕ). HasValue (odd 24 s t 0 149) s x (2 ^ 149)) (mul-one t) (odd-sign 24 s t 0 149)
 

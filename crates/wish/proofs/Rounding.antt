@@ -69,7 +69,12 @@ below-one false n d e h k = rounded-small n d h ∙ sym (rounded-small n e k)
 below-one true zero d e h k = rounded-none true d h ∙ sym (rounded-none true e k)
 below-one true (suc n) d e h k = rounded-one (suc n) d (omega arith) h ∙ sym (rounded-one (suc n) e (omega arith) k)
 
--- so that no power past 2 ^ 24 counts for a number below it
+-- so that one near 0 is rounded as any other of its sign is, as 1/4 is
+pub rounded-tiny : (s : Bool) (n d : ℕ) → 0 < n → n * 4 < d → roundedSize s n d ≡ roundedSize s 1 4
+rounded-tiny false n d N h = rounded-small n d (omega arith) ∙ sym (rounded-small 1 4 (omega arith))
+rounded-tiny true n d N h = rounded-one n d N (omega arith) ∙ sym (rounded-one 1 4 (omega arith) (omega arith))
+
+-- and that no power past 2 ^ 24 counts for a number below it
 pub rounded-enough : (s : Bool) (n k : ℕ) → n < 16777216 → roundedSize s n (2 ^ min k 24) ≡ roundedSize s n (2 ^ k)
 rounded-enough s n k h = go (decLt k 24)
   where

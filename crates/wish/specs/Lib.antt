@@ -1,6 +1,7 @@
 -- What document 01 says of wishes and readings, as definitions.
 pub mod Rounding
 pub mod Units
+pub mod Patterns
 pub mod Trimming
 pub mod Reading
 pub mod Cases

@@ -1,12 +1,13 @@
 // Wishes as units, their trimming, and what is read of a carrier, in metres.
 ghost use mathlib.Core.Path.{_≡_};
-ghost use mathlib.Core.Bool.{true, false};
+ghost use mathlib.Core.Bool.{true, false, cond};
 ghost use Prim.Native.Nat.{_+_, _^_, _≤_, _<_, min};
 ghost use lib.IntN.{pos};
-ghost use lib.Ieee.{fin};
+ghost use lib.Ieee.{fin, lt};
 ghost use lib.Ieee.Exact.{HasValue};
 ghost use Rattle.wish.specs.Rounding.{roundedSize, roundedTimes};
 ghost use Rattle.wish.specs.Units.{liesWithin, accelerationUnits, targetUnits, unitsOf, sizeIn};
+ghost use Rattle.wish.specs.Patterns.{leastNormal, floatOf};
 ghost use Rattle.wish.specs.Trimming.{smallerOf, trimmedTo};
 ghost use Rattle.wish.specs.Reading.{readingOf};
 
@@ -29,6 +30,31 @@ pub enum Converted {
 pub struct Reading {
     pub position: f64,
     pub speed: f64,
+}
+
+// ±2 ^ −126, the least normal number in size.
+fn least_normal(minus: bool) -> f32
+    ensures { λ r. ⌜ r ≡ leastNormal minus ⌝ }
+{
+    if minus {
+        return f32::from_bits(0x8080_0000);
+    }
+    f32::from_bits(0x0080_0000)
+}
+
+// The float that stands for bits. `f32::from_bits` leaves a NaN's patterns open, so they are told apart first; and no subnormal number is made, since
+// a host's mode of the processor may flush it or trap on it, in any comparison or product.
+pub fn float_of(bits: u32) -> f32
+    ensures { λ r. ⌜ r ≡ floatOf bits ⌝ }
+{
+    let size = bits % 0x8000_0000;
+    if size > 0x7F80_0000 {
+        return 0.0 / 0.0;
+    }
+    if (size > 0) & (size < 0x80_0000) {
+        return least_normal(bits >= 0x8000_0000);
+    }
+    f32::from_bits(bits)
 }
 
 // A float as a fraction: digits / 2 ^ shift, negative where `negative` is true.
@@ -157,13 +183,20 @@ pub fn trimmed(w: i64, v: u32, hardest: u32, most: u32, limit: u32) -> i64
     if capped < low { low } else { capped }
 }
 
+// x, and 0 where it is none above. A whole number of 32 bits becomes a double by a difference of two, and a host that rounds down gets −0 of it for 0.
+fn zero_or_above(x: f64) -> f64
+    ensures { λ r. ⌜ r ≡ cond (lt (fin false 0 (pos 0)) x) x (fin false 0 (pos 0)) ⌝ }
+{
+    if 0.0 < x { x } else { 0.0 }
+}
+
 // The position p and the speed v in metres and m/s. A whole number of 32 bits by a power of two loses nothing as a double.
 pub fn reading_of(p: u32, v: u32) -> Reading
     ensures { λ r. ⌜ r ≡ readingOf p v ⌝ }
     ensures { λ r. ⌜ HasValue (r .position) false p 2048 × HasValue (r .speed) false v 128 ⌝ }
 {
     Reading {
-        position: (p as f64) / 2048.0,
-        speed: (v as f64) / 128.0,
+        position: zero_or_above((p as f64) / 2048.0),
+        speed: zero_or_above((v as f64) / 128.0),
     }
 }

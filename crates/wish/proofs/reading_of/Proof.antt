@@ -1,37 +1,42 @@
 -- `wish::reading_of` meets its contract: each quotient by a power of two is exact. Assumes nothing.
 use borrow.Author.Needs.{needs}
-use mathlib.Core.Path.{ap₂}
+use mathlib.Core.Path.{refl, _∙_}
 use Prim.Native.Nat.{ℕ, _<_, _^_}
 use native.Mathlib.Nat.{lt-of-lt-of-le}
 use lib.Dec.{lit≤}
-use lib.Ieee.{Float, ofBits}
-use Rattle.wish.specs.Reading.{readingOf}
-use Rattle.wish.specs.declared.Reading.{Reading}
-use Rattle.wish.proofs.Quotients.{quotient-is, quotient-exact}
+use lib.Ieee.{ofBits}
+use Rattle.wish.specs.Reading.{doubleOf, readingOf}
+use Rattle.wish.proofs.Quotients.{doubleOf-exact, quotient-kept}
 use Rattle.wish.proofs.reading_of.Statement.{statement}
 use Rattle.wish.proofs.reading_of.Tie as tie
-
-abbrev reads : Float → Float → Reading
-reads x y = record { position = x; speed = y }
 
 few : (n : ℕ) → n < 2 ^ 32 → n < 2 ^ 53
 few n h = lt-of-lt-of-le h (lit≤ tt)
 
-int-to-float-t3 : tie.Need-int-to-float-t3
-int-to-float-t3 c = search needs
+int-to-float-zero-or-above : tie.Need-int-to-float-zero-or-above
+int-to-float-zero-or-above c = search needs
 
-int-to-float-t5 : tie.Need-int-to-float-t5
-int-to-float-t5 c = search needs
+zero-or-above-requires : tie.Need-zero-or-above-requires
+zero-or-above-requires c κs = search needs
+
+int-to-float-zero-or-above-2 : tie.Need-int-to-float-zero-or-above-2
+int-to-float-zero-or-above-2 c = search needs
+
+zero-or-above-requires-2 : tie.Need-zero-or-above-requires-2
+zero-or-above-requires-2 c κs = search needs
 
 returns : tie.Need-returns
-unfolding ofBits readingOf
+unfolding ofBits readingOf doubleOf
 returns c =
-    let a = c .before .before .args in
-    let p = few (a .p) (c .before .before .fits .p .fits) in
-    let v = few (a .v) (c .before .before .fits .v .fits) in (
-      ap₂ (λ (x y : Float). reads x y) (quotient-is (a .p) 11 p (lit≤ tt)) (quotient-is (a .v) 7 v (lit≤ tt)),
-      (quotient-exact (a .p) 11 p (lit≤ tt), quotient-exact (a .v) 7 v (lit≤ tt)),
-    )
+    let first = c .before .before in
+    let start = first .before .before in
+    let p = few (start .args .p) (start .fits .p .fits) in
+    let v = few (start .args .v) (start .fits .v .fits) in
+    let position = first .zero-or-above .ensures ∙ quotient-kept (start .args .p) 11 p (lit≤ tt) refl in
+    let speed = c .zero-or-above2 .ensures ∙ quotient-kept (start .args .v) 7 v (lit≤ tt) refl in
+    (rw (position, speed) refl, (rw position (doubleOf-exact (start .args .p) 11 p (lit≤ tt)), rw speed (doubleOf-exact (start .args .v) 7 v (lit≤ tt))))
 
 pub reading-of-spec : {M : Type 1} → statement M
-reading-of-spec = tie.close (tie.spec int-to-float-t3 int-to-float-t5 returns)
+reading-of-spec =
+    tie.close
+    (tie.spec int-to-float-zero-or-above zero-or-above-requires int-to-float-zero-or-above-2 zero-or-above-requires-2 returns)

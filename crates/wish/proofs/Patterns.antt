@@ -1,0 +1,111 @@
+-- The float that stands for bits has the units of the float of these bits, in both sorts of wish. Assumes nothing.
+use mathlib.Core.Path.{_≡_, refl, sym, ap, ap₂, _∙_, subst}
+use mathlib.Core.Bool.{Bool, true, false, not, _&&_, _||_, cond}
+use Prim.Native.Nat.{ℕ, _-_, _*_, _/_, _%_, _^_, _≤_, _<_}
+use native.Mathlib.Nat.{lt-of-lt-of-le, mul-pos}
+use native.Mathlib.Omega.{arith}
+use borrow.Author.Tests.{le-leb, ne-eqb}
+use lib.Dec.{leb, ltb, eqb, ltb→lt, lit≤, lit<}
+use lib.IntN.{ℤ, pos, _-ℤ_}
+use lib.Ieee.{Float, nan, inf, fin, binary32, ofBits, ofFields, up, down}
+use lib.Ieee.Fits.{and-l, and-r, down-pos}
+use lib.Ieee.Exact.{HasValue}
+use Rattle.wish.specs.Rounding.{signed, roundedSize, roundedTimes}
+use Rattle.wish.specs.Units.{liesWithin, unitsWithin, accelerationUnits, targetUnits, unitsOf}
+use Rattle.wish.specs.Patterns.{isSubnormal, leastNormal, floatOf}
+use Rattle.wish.specs.declared.Converted.{Converted}
+use Rattle.wish.specs.declared.Converted.the-variants.{Units, Outside}
+use Rattle.wish.specs.declared.Wish.the-variants.{Acceleration, TargetSpeed}
+use Rattle.wish.proofs.Rounding.{rounded-tiny}
+use Rattle.wish.proofs.Values.{holds, at-most-of-value, in-range, within-size-from-0, rounded-value}
+use Rattle.wish.proofs.Bits.{ofBits-is, low-field}
+
+-- ±a / c, not 0 and below 1/512 in size
+record Tiny (x : Float) (s : Bool) (a c : ℕ) : Type 0 where
+  value : HasValue x s a c
+  some : 0 < a
+  few : a * 512 < c
+
+-- a number of either sign: of those below 0 none lies from 0 to 64
+not-from-0 : (x : Float) (s : Bool) (a c : ℕ) → Tiny x s a c → liesWithin (fin false 0 (pos 0)) (fin false 1 (pos 6)) x ≡ not s
+not-from-0 nan s a c t = absurd (t .value)
+not-from-0 (inf u) s a c t = absurd (t .value)
+not-from-0 (fin u m e) s a c t = ap (λ (w : Bool). liesWithin (fin false 0 (pos 0)) (fin false 1 (pos 6)) (fin w m e)) (t .value .0) ∙ within-size-from-0 6 s m e ∙ by-sign s
+  where
+    few : m * up e ≤ 2 ^ 6 * down e
+    few = let f = t .few in at-most-of-value 64 (fin u m e) s a c (omega arith) (t .value) (omega arith)
+
+    no-zero : m * up e ≡ 0 → ⊥
+    no-zero z =
+        let g = mul-pos (t .some) (down-pos e) in
+        let v : 0 * c ≡ a * down e = rw z at (t .value .1) in
+        omega arith
+
+    by-sign : (w : Bool) → (not w || eqb (m * up e) 0) && leb (m * up e) (2 ^ 6 * down e) ≡ not w
+    by-sign false = le-leb _ _ few
+    by-sign true = rw (ne-eqb (m * up e) 0 no-zero) refl
+
+module _ {x : Float} {s : Bool} {a c : ℕ} (t : Tiny x s a c) where
+  positive : 0 < c
+  positive = let f = t .few in omega arith
+
+  rounds : (k : ℕ) → 0 < a * k → a * k * 4 < c → roundedTimes k x ≡ signed s (roundedSize s 1 4)
+  rounds k some few = rounded-value k x s a c positive (t .value) ∙ ap (signed s) (rounded-tiny s (a * k) c some few)
+
+  tiny-acceleration : accelerationUnits x ≡ Units (signed s (roundedSize s 1 4))
+  unfolding accelerationUnits unitsWithin
+  tiny-acceleration =
+      let f = t .few in
+      let g = t .some in
+      let inside = in-range 4 x (at-most-of-value 16 x s a c positive (t .value) (omega arith)) in
+      rw inside (ap Units (rounds 16 (omega arith) (omega arith)))
+
+  tiny-target : (v : ℕ) → targetUnits x v ≡ cond (not s) (Units (signed s (roundedSize s 1 4) -ℤ pos v)) Outside
+  unfolding targetUnits unitsWithin
+  tiny-target v =
+      let f = t .few in
+      let g = t .some in
+      ap₂ (λ (u : Bool) (z : ℤ). cond u (Units (z -ℤ pos v)) Outside) (not-from-0 x s a c t) (rounds 128 (omega arith) (omega arith))
+
+-- the two floats, where they differ
+module _ (bits : ℕ) (h : isSubnormal bits ≡ true) where
+  given : Tiny (ofBits binary32 bits) (leb 0x8000_0000 bits) (bits % 0x80_0000) (2 ^ 149)
+  unfolding isSubnormal
+  given =
+      let low = ltb 0 (bits % 0x8000_0000) in
+      let high = ltb (bits % 0x8000_0000) 0x80_0000 in
+      let some = ltb→lt 0 (bits % 0x8000_0000) (and-l low high (holds h)) in
+      let small = ltb→lt (bits % 0x8000_0000) 0x80_0000 (and-r low high (holds h)) in
+      let field : bits % 0x8000_0000 / 0x80_0000 ≡ 0 = omega arith in
+      record {
+        value = subst (λ (y : Float). HasValue y (leb 0x8000_0000 bits) (bits % 0x80_0000) (2 ^ 149))
+            (sym (ofBits-is bits ∙ ap (λ (x : ℕ). ofFields binary32 (leb 0x8000_0000 bits) x (bits % 0x80_0000)) field))
+            (low-field (leb 0x8000_0000 bits) (bits % 0x80_0000));
+        some = omega arith;
+        few = let f : bits % 0x80_0000 * 512 < 2 ^ 32 = omega arith in lt-of-lt-of-le f (lit≤ tt);
+      }
+
+  stands : Tiny (leastNormal (leb 0x8000_0000 bits)) (leb 0x8000_0000 bits) (2 ^ 23) (2 ^ 149)
+  unfolding leastNormal
+  stands = record { value = (refl, refl); some = lit< tt; few = lit< tt }
+
+-- so it makes no difference which of them a wish is made of
+module _ (bits v : ℕ) where
+  alike : (f : Float → Converted) → (isSubnormal bits ≡ true → f (leastNormal (leb 0x8000_0000 bits)) ≡ f (ofBits binary32 bits))
+      → f (floatOf bits) ≡ f (ofBits binary32 bits)
+  unfolding floatOf
+  alike f same = go (isSubnormal bits) refl
+    where
+      go : (t : Bool) → isSubnormal bits ≡ t → f (cond t (leastNormal (leb 0x8000_0000 bits)) (ofBits binary32 bits)) ≡ f (ofBits binary32 bits)
+      go true e = same e
+      go false e = refl
+
+  -- "an acceleration in m/s² as a 32-bit float"
+  pub acceleration-of-bits : unitsOf (Acceleration (floatOf bits)) v ≡ unitsOf (Acceleration (ofBits binary32 bits)) v
+  unfolding unitsOf
+  acceleration-of-bits = alike accelerationUnits (λ h. tiny-acceleration (stands bits h) ∙ sym (tiny-acceleration (given bits h)))
+
+  -- "a target speed in m/s as a 32-bit float"
+  pub target-of-bits : unitsOf (TargetSpeed (floatOf bits)) v ≡ unitsOf (TargetSpeed (ofBits binary32 bits)) v
+  unfolding unitsOf
+  target-of-bits = alike (λ x. targetUnits x v) (λ h. tiny-target (stands bits h) v ∙ sym (tiny-target (given bits h) v))
