@@ -38,7 +38,10 @@ fn supervise(space: &mut [u8]) {
 
 fn main() {
     if os::arg_count() > 1 {
-        io::write_all(libc::STDERR_FILENO, b"supervise: takes no arguments; call texts come on standard input\n");
+        io::write_all(
+            libc::STDERR_FILENO,
+            b"supervise: takes no arguments; call texts come on standard input\n",
+        );
         return;
     }
     let mut space = [0u8; console::LONGEST_INPUT + 1];

@@ -5,6 +5,7 @@ ghost use Prim.Native.Nat.{_+_, _≤_};
 ghost use lib.ListN.{length};
 use libc::STDIN_FILENO;
 use libc::STDOUT_FILENO;
+use libc::types::timespec;
 
 // What one call moved, whether it moved nothing as at the end of the input, and whether it failed. One that is to be made again has none of
 // the three.
@@ -14,12 +15,25 @@ struct Moved {
     failed: bool,
 }
 
+// A millisecond, or less where a signal ends it: enough for the wait to take next to no processor time.
+fn sleep_briefly() {
+    let asked = timespec {
+        tv_sec: 0,
+        tv_nsec: 1000000,
+    };
+    let mut left = timespec {
+        tv_sec: 0,
+        tv_nsec: 0,
+    };
+    libc::nanosleep(&asked, &mut left);
+}
+
 // Whether the call that set `errno` is to be made again: a signal interrupted it, or a descriptor in non-blocking mode was not ready, which is
 // waited for. `errno` stays as it is where the answer is no.
 fn again() -> bool {
     let error = os::errno();
     if error == libc::EAGAIN {
-        libc::sched_yield();
+        sleep_briefly();
         return true;
     }
     error == libc::EINTR
@@ -107,7 +121,10 @@ fn write_once(buf: &[u8], from: usize) -> Moved
         os::fail(b"supervise: writing standard output");
     }
     if m.end {
-        io::write_all(libc::STDERR_FILENO, b"supervise: writing standard output: no byte was taken\n");
+        io::write_all(
+            libc::STDERR_FILENO,
+            b"supervise: writing standard output: no byte was taken\n",
+        );
     }
     m
 }
