@@ -1,5 +1,5 @@
 // Bytes moved between file descriptors and slices. A call that moves fewer bytes than asked goes on from there, and one that was interrupted or
-// came too early is made again. Any other failure ends the moving and is told on standard error.
+// came too early is made again. Any other failure ends the moving and is told on standard error, before anything else can set `errno`.
 ghost use mathlib.Core.Path.{_≡_};
 ghost use Prim.Native.Nat.{_+_, _≤_};
 ghost use lib.ListN.{length};
@@ -15,7 +15,7 @@ struct Moved {
     failed: bool,
 }
 
-// A millisecond, or less where a signal ends it: enough for the wait to take next to no processor time.
+// A millisecond, or less where a signal ends it, so that a wait takes little of the processor.
 fn sleep_briefly() {
     let asked = timespec {
         tv_sec: 0,
@@ -28,8 +28,8 @@ fn sleep_briefly() {
     libc::nanosleep(&asked, &mut left);
 }
 
-// Whether the call that set `errno` is to be made again: a signal interrupted it, or a descriptor in non-blocking mode was not ready, which is
-// waited for. `errno` stays as it is where the answer is no.
+// Whether the call that set `errno` is to be made again: a signal interrupted it, or its descriptor, in non-blocking mode, was not ready, and
+// some time has passed since.
 fn again() -> bool {
     let error = os::errno();
     if error == libc::EAGAIN {
@@ -39,7 +39,7 @@ fn again() -> bool {
     error == libc::EINTR
 }
 
-// Only where the call answered a number below 0 has it set `errno`.
+// What a call's answer means. Only where it is below 0 has the call set `errno`.
 fn taken(got: isize, most: usize) -> Moved
     ensures { λ r. ⌜ r .bytes ≤ most ⌝ }
 {
