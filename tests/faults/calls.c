@@ -1,7 +1,9 @@
-// The C library's read and write, made to move few bytes, to be interrupted and to fail, as the environment says. To be preloaded.
+// The C library's read and write, made to move few bytes, to be interrupted, to be too early and to fail, as the environment says. To be
+// preloaded. Only standard input and standard output are touched.
 //   READ_PIECE, WRITE_PIECE      most bytes that a call moves
-//   READ_SIGNALS, WRITE_SIGNALS  1: before each call that goes through, one is interrupted
-//   READ_FAILS, WRITE_FAILS      the call that fails, counted from 1 without the interrupted ones
+//   READ_SIGNALS, WRITE_SIGNALS  how many calls are interrupted before each that goes through
+//   READ_WAITS, WRITE_WAITS      how many calls find the descriptor not ready before each that goes through, after the interrupted ones
+//   READ_FAILS, WRITE_FAILS      the call that fails, counted from 1 among those that go through
 //   WRITE_NOTHING                the call that writes no byte and sets no error, so counted
 #define _GNU_SOURCE
 #include <errno.h>
@@ -16,23 +18,24 @@ static long setting(const char *name)
 }
 
 struct way {
+    int fd;
     long number;
-    const char *piece, *signals, *fails, *nothing;
-    long calls;
-    int interrupted;
+    const char *piece, *signals, *waits, *fails, *nothing;
+    long calls, held;
 };
 
-static struct way input = {SYS_read, "READ_PIECE", "READ_SIGNALS", "READ_FAILS", "NONE", 0, 0};
-static struct way output = {SYS_write, "WRITE_PIECE", "WRITE_SIGNALS", "WRITE_FAILS", "WRITE_NOTHING", 0, 0};
+static struct way input = {STDIN_FILENO, SYS_read, "READ_PIECE", "READ_SIGNALS", "READ_WAITS", "READ_FAILS", "NONE", 0, 0};
+static struct way output = {STDOUT_FILENO, SYS_write, "WRITE_PIECE", "WRITE_SIGNALS", "WRITE_WAITS", "WRITE_FAILS", "WRITE_NOTHING", 0, 0};
 
-static ssize_t moved(struct way *w, int fd, long bytes, size_t count)
+static ssize_t moved(struct way *w, long bytes, size_t count)
 {
-    if (setting(w->signals) && !w->interrupted) {
-        w->interrupted = 1;
-        errno = EINTR;
+    long signals = setting(w->signals);
+    if (w->held < signals + setting(w->waits)) {
+        errno = w->held < signals ? EINTR : EAGAIN;
+        w->held++;
         return -1;
     }
-    w->interrupted = 0;
+    w->held = 0;
     w->calls++;
     if (w->calls == setting(w->fails)) {
         errno = EIO;
@@ -43,15 +46,15 @@ static ssize_t moved(struct way *w, int fd, long bytes, size_t count)
     long piece = setting(w->piece);
     if (piece && (size_t)piece < count)
         count = piece;
-    return syscall(w->number, fd, bytes, count);
+    return syscall(w->number, w->fd, bytes, count);
 }
 
 ssize_t read(int fd, void *bytes, size_t count)
 {
-    return moved(&input, fd, (long)bytes, count);
+    return fd == input.fd ? moved(&input, (long)bytes, count) : syscall(SYS_read, fd, bytes, count);
 }
 
 ssize_t write(int fd, const void *bytes, size_t count)
 {
-    return moved(&output, fd, (long)bytes, count);
+    return fd == output.fd ? moved(&output, (long)bytes, count) : syscall(SYS_write, fd, bytes, count);
 }

@@ -1,7 +1,7 @@
 // Standard input to standard output: the input is read whole, and then each block's answer is written before the next block is run.
 mod pipe;
 
-// The blocks in turn, until one stops the program, or the output is closed. A step that does not stop takes at least one byte.
+// The blocks in turn, until one stops the program, or the output takes no more. A step that does not stop takes at least one byte.
 fn run(input: &[u8]) {
     let mut lane = [[0u64; lane::ROW_WORDS]; lane::ROWS];
     lane::empty(&mut lane);
@@ -36,7 +36,15 @@ fn supervise(space: &mut [u8]) {
     run(&space[..n]);
 }
 
+// An argument is refused and not ignored: a file meant for the input would otherwise leave the program waiting for another one.
 fn main() {
+    if os::arg_count() > 1 {
+        io::write_all(
+            libc::STDERR_FILENO,
+            b"supervise: takes no arguments; call texts come on standard input\n",
+        );
+        return;
+    }
     let mut space = [0u8; console::LONGEST_INPUT + 1];
     supervise(&mut space);
 }

@@ -1,19 +1,45 @@
-// Bytes moved between file descriptors and slices. A call that moves fewer bytes than asked goes on from there, and one that a signal
-// interrupted before it moved any is made again; the end of the input, a closed output and any other failure end the moving.
+// Bytes moved between file descriptors and slices. A call that moves fewer bytes than asked goes on from there, and one that was interrupted or
+// came too early is made again. Any other failure ends the moving and is told on standard error, before anything else can set `errno`.
 ghost use mathlib.Core.Path.{_≡_};
 ghost use Prim.Native.Nat.{_+_, _≤_};
 ghost use lib.ListN.{length};
 use libc::STDIN_FILENO;
 use libc::STDOUT_FILENO;
+use libc::types::timespec;
 
-// What one call moved, whether it moved nothing as at the end of the input, and whether it failed.
+// What one call moved, whether it moved nothing as at the end of the input, and whether it failed. One that is to be made again has none of
+// the three.
 struct Moved {
     bytes: usize,
     end: bool,
     failed: bool,
 }
 
-// Only where the call answered a number below 0 has it set `errno`.
+// A millisecond, or less where a signal ends it, so that a wait takes little of the processor.
+fn sleep_briefly() {
+    let asked = timespec {
+        tv_sec: 0,
+        tv_nsec: 1000000,
+    };
+    let mut left = timespec {
+        tv_sec: 0,
+        tv_nsec: 0,
+    };
+    libc::nanosleep(&asked, &mut left);
+}
+
+// Whether the call that set `errno` is to be made again: a signal interrupted it, or its descriptor, in non-blocking mode, was not ready, and
+// some time has passed since.
+fn again() -> bool {
+    let error = os::errno();
+    if error == libc::EAGAIN {
+        sleep_briefly();
+        return true;
+    }
+    error == libc::EINTR
+}
+
+// What a call's answer means. Only where it is below 0 has the call set `errno`.
 fn taken(got: isize, most: usize) -> Moved
     ensures { λ r. ⌜ r .bytes ≤ most ⌝ }
 {
@@ -32,10 +58,17 @@ fn taken(got: isize, most: usize) -> Moved
             failed: false,
         };
     }
+    if got < 0 {
+        return Moved {
+            bytes: 0,
+            end: false,
+            failed: !again(),
+        };
+    }
     Moved {
         bytes: 0,
-        end: got == 0,
-        failed: (got < 0) & (os::errno() != libc::EINTR),
+        end: true,
+        failed: false,
     }
 }
 
@@ -46,7 +79,11 @@ fn read_once(buf: &mut [u8], from: usize) -> Moved
 {
     let room = buf.len() - from;
     let got = libc::read(STDIN_FILENO, &mut buf[from..]);
-    taken(got, room)
+    let m = taken(got, room);
+    if m.failed {
+        os::fail(b"supervise: reading standard input");
+    }
+    m
 }
 
 // The input up to the buffer's length, or no byte of it where a call fails: a part is not run as if it were the whole. A proved loop has to
@@ -79,7 +116,17 @@ fn write_once(buf: &[u8], from: usize) -> Moved
 {
     let left = buf.len() - from;
     let got = libc::write(STDOUT_FILENO, &buf[from..]);
-    taken(got, left)
+    let m = taken(got, left);
+    if m.failed {
+        os::fail(b"supervise: writing standard output");
+    }
+    if m.end {
+        io::write_all(
+            libc::STDERR_FILENO,
+            b"supervise: writing standard output: no byte was taken\n",
+        );
+    }
+    m
 }
 
 // All of it, or false: an output that takes no byte takes none later.

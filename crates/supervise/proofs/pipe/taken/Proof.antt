@@ -17,11 +17,14 @@ returns c = search needs
 returns-2 : tie.Need-returns-2
 returns-2 c = search needs
 
-errno-requires : tie.Need-errno-requires
-errno-requires c κs = search needs
+again-requires : tie.Need-again-requires
+again-requires c κs = search needs
 
 returns-3 : tie.Need-returns-3
 returns-3 c = search needs
 
+returns-4 : tie.Need-returns-4
+returns-4 c = search needs
+
 pub taken-spec : {M : Type 1} → statement M
-taken-spec = tie.close (tie.spec cast-n returns returns-2 errno-requires returns-3)
+taken-spec = tie.close (tie.spec cast-n returns returns-2 again-requires returns-3 returns-4)
