@@ -1,10 +1,11 @@
-// The C library's read and write, made to move few bytes, to be interrupted, to be too early and to fail, as the environment says. To be
+// The C library's read, write and close, made to move few bytes, to be interrupted, to be too early and to fail, as the environment says. To be
 // preloaded. Only standard input and standard output are touched.
 //   READ_PIECE, WRITE_PIECE      most bytes that a call moves
 //   READ_SIGNALS, WRITE_SIGNALS  how many calls are interrupted before each that goes through
 //   READ_WAITS, WRITE_WAITS      how many calls find the descriptor not ready before each that goes through, after the interrupted ones
 //   READ_FAILS, WRITE_FAILS      the call that fails, counted from 1 among those that go through
 //   WRITE_NOTHING                the call that writes no byte and sets no error, so counted
+//   CLOSE_FAILS                  1: the close of standard output fails
 #define _GNU_SOURCE
 #include <errno.h>
 #include <stdlib.h>
@@ -57,4 +58,13 @@ ssize_t read(int fd, void *bytes, size_t count)
 ssize_t write(int fd, const void *bytes, size_t count)
 {
     return fd == output.fd ? moved(&output, (long)bytes, count) : syscall(SYS_write, fd, bytes, count);
+}
+
+int close(int fd)
+{
+    if (fd == output.fd && setting("CLOSE_FAILS")) {
+        errno = EIO;
+        return -1;
+    }
+    return syscall(SYS_close, fd);
 }

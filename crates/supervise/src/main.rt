@@ -47,4 +47,5 @@ fn main() {
     }
     let mut space = [0u8; console::LONGEST_INPUT + 1];
     supervise(&mut space);
+    pipe::close_output();
 }

@@ -146,3 +146,12 @@ pub(crate) fn write_whole(buf: &[u8]) -> bool {
     }
     false
 }
+
+// Some file systems tell only now that bytes were lost. An output that was never open has lost none but those whose write has failed.
+pub(crate) fn close_output() {
+    if libc::close(STDOUT_FILENO) < 0 {
+        if os::errno() != libc::EBADF {
+            os::fail(b"supervise: closing standard output");
+        }
+    }
+}
