@@ -13,7 +13,7 @@
  *
  * The library, libhost.a, is for x86-64 Linux and its C calling convention (System V), and position independent. It needs memcpy and memset
  * and nothing else, has no state of its own and allocates nothing: any threads may call it at once, each with a lane of its own. No call
- * takes more than RONDAVITSE_MOST_STACK bytes of stack beside what memcpy and memset take.
+ * takes more than RONDAVITSE_MOST_STACK bytes of stack, beside what memcpy and memset take, and the dynamic linker where it finds them late.
  */
 #ifndef RONDAVITSE_H
 #define RONDAVITSE_H
