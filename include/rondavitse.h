@@ -42,7 +42,7 @@ uint32_t rondavitse_version(void);
 #define RONDAVITSE_ANSWER_BUFFER 4096    /* bytes: the least buffer of a step */
 #define RONDAVITSE_MOST_STACK 4096       /* bytes */
 
-/* What the `no` of an answer says. 10 is the program's alone: no call gives it. */
+/* What the `no` of an answer says. 8 stands in the text of a step's answer alone, and 10 is the program's own. */
 enum {
     RONDAVITSE_ACCEPTED = 0,
     RONDAVITSE_SURFACE_UNKNOWN = 1,
