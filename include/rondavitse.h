@@ -4,18 +4,16 @@
  * number of its refusal, every value beside it is zero (but for a step's `next` and `stop`), and every word of the lane and every lent byte
  * is as before. Positions count 1/2048 m, speeds 1/128 m/s, accelerations 1/16 m/s²; a cycle is 1/8 s.
  *
- * Any words may stand in the lane and any numbers may be given. The host sees to the pointers:
+ * Any words may stand in the lane and any numbers may be given: those of a call are 64 bits wide and refused past their ranges, never cut.
+ * The host sees to the pointers:
  * - `lane` points to a whole lane, aligned as the struct is, that nobody else uses during the call; others may read one that is const;
  * - any other pointer is to as many elements as the length beside it says, and never null;
  * - a buffer to write to overlaps neither the lane nor what else is lent in the call.
  * What is promised of a lane over many calls holds if each call gets it as the one before has left it.
  *
- * Refusals: 1 surface above 7; 2 lane end outside 1 to 2^31; 3 limit outside 1 to 8,192; 4 carrier number outside 1 to 65,535; 5 position
- * at or past the end; 6 speed above the limit; 7 a float outside its range; 8 malformed text; 9 lane text longer than the buffer;
- * 10 program input above 65,536 bytes; 11 a wish of no sort that exists, or units past 16 bits; 12 an array of wishes shorter than the
- * count; 13 a buffer for answers shorter than 4,096 bytes; 21 never started, or the lane breaks a rule; 22 64 carriers present; 23 number
- * present; 24 number absent; 25 not safe behind the carrier ahead; 26 the carrier behind not safe; 27 count differs from the carriers
- * present; 28 cycle number is 2^64 - 1.
+ * The library, libhost.a, is for x86-64 Linux and its C calling convention (System V), and position independent. It needs memcpy and memset
+ * and nothing else, has no state of its own and allocates nothing: any threads may call it at once, each with a lane of its own. No call
+ * takes more than RONDAVITSE_MOST_STACK bytes of stack, beside what memcpy and memset take, and the dynamic linker where it finds them late.
  */
 #ifndef RONDAVITSE_H
 #define RONDAVITSE_H
@@ -23,10 +21,16 @@
 #include <stdbool.h>
 #include <stddef.h>
 #include <stdint.h>
+#include <string.h>
 
 #ifdef __cplusplus
 extern "C" {
 #endif
+
+/* The number of this interface, another one whenever a struct, a number, a constant or a function changes. A host asks the library for its
+ * own before the first call: where they differ, header and library do not belong together. */
+#define RONDAVITSE_VERSION 1
+uint32_t rondavitse_version(void);
 
 #define RONDAVITSE_LAST_SURFACE 7
 #define RONDAVITSE_FARTHEST_END UINT64_C(2147483648)
@@ -36,9 +40,70 @@ extern "C" {
 #define RONDAVITSE_LAST_CYCLE UINT64_MAX /* the cycle number after which no cycle is run */
 #define RONDAVITSE_LONGEST_TEXT 2248     /* bytes: a buffer that holds every lane text */
 #define RONDAVITSE_ANSWER_BUFFER 4096    /* bytes: the least buffer of a step */
+#define RONDAVITSE_MOST_STACK 4096       /* bytes */
 
+/* What the `no` of an answer says. 8 stands in the text of a step's answer alone, and 10 is the program's own. */
+enum {
+    RONDAVITSE_ACCEPTED = 0,
+    RONDAVITSE_SURFACE_UNKNOWN = 1,
+    RONDAVITSE_END_OUT_OF_RANGE = 2,
+    RONDAVITSE_LIMIT_OUT_OF_RANGE = 3,
+    RONDAVITSE_NUMBER_OUT_OF_RANGE = 4,
+    RONDAVITSE_POSITION_PAST_END = 5,
+    RONDAVITSE_SPEED_ABOVE_LIMIT = 6,
+    RONDAVITSE_FLOAT_OUT_OF_RANGE = 7,
+    RONDAVITSE_TEXT_MALFORMED = 8,
+    RONDAVITSE_TEXT_BUFFER_TOO_SHORT = 9,
+    RONDAVITSE_INPUT_TOO_LONG = 10,
+    RONDAVITSE_WISH_UNKNOWN = 11,
+    RONDAVITSE_WISHES_TOO_FEW = 12,
+    RONDAVITSE_ANSWER_BUFFER_TOO_SHORT = 13,
+    RONDAVITSE_LANE_UNSOUND = 21,
+    RONDAVITSE_LANE_FULL = 22,
+    RONDAVITSE_NUMBER_PRESENT = 23,
+    RONDAVITSE_NUMBER_ABSENT = 24,
+    RONDAVITSE_UNSAFE_BEHIND_LEADER = 25,
+    RONDAVITSE_FOLLOWER_UNSAFE = 26,
+    RONDAVITSE_COUNT_DIFFERS = 27,
+    RONDAVITSE_CYCLES_EXHAUSTED = 28
+};
+
+static inline const char *rondavitse_words(uint32_t no) {
+    switch (no) {
+    case RONDAVITSE_ACCEPTED: return "accepted";
+    case RONDAVITSE_SURFACE_UNKNOWN: return "surface above 7";
+    case RONDAVITSE_END_OUT_OF_RANGE: return "lane end outside 1 to 2^31";
+    case RONDAVITSE_LIMIT_OUT_OF_RANGE: return "limit outside 1 to 8,192";
+    case RONDAVITSE_NUMBER_OUT_OF_RANGE: return "carrier number 0, or above 65,535";
+    case RONDAVITSE_POSITION_PAST_END: return "position at or past the end";
+    case RONDAVITSE_SPEED_ABOVE_LIMIT: return "speed above the limit";
+    case RONDAVITSE_FLOAT_OUT_OF_RANGE: return "a float outside its range";
+    case RONDAVITSE_TEXT_MALFORMED: return "malformed text";
+    case RONDAVITSE_TEXT_BUFFER_TOO_SHORT: return "lane text longer than the buffer";
+    case RONDAVITSE_INPUT_TOO_LONG: return "program input above 65,536 bytes";
+    case RONDAVITSE_WISH_UNKNOWN: return "a wish of no sort that exists, or units past 16 bits";
+    case RONDAVITSE_WISHES_TOO_FEW: return "an array of wishes shorter than the count";
+    case RONDAVITSE_ANSWER_BUFFER_TOO_SHORT: return "a buffer for answers shorter than 4,096 bytes";
+    case RONDAVITSE_LANE_UNSOUND: return "never started, or the lane handed in breaks a rule";
+    case RONDAVITSE_LANE_FULL: return "64 carriers present";
+    case RONDAVITSE_NUMBER_PRESENT: return "number present";
+    case RONDAVITSE_NUMBER_ABSENT: return "number absent";
+    case RONDAVITSE_UNSAFE_BEHIND_LEADER: return "not safe behind the carrier ahead";
+    case RONDAVITSE_FOLLOWER_UNSAFE: return "the carrier behind not safe";
+    case RONDAVITSE_COUNT_DIFFERS: return "count differs from the carriers present";
+    case RONDAVITSE_CYCLES_EXHAUSTED: return "cycle number is 2^64 - 1";
+    default: return "unknown refusal";
+    }
+}
+
+/* A surface is a code, with guaranteed braking b, hardest braking B and most acceleration A, in 1/16 m/s²:
+ *     code   0    1    2    3    4    5    6    7
+ *     b     64   56   48   40   32   16    6    1
+ *     B    128  120  112   96   96   64   48  255
+ *     A     32   32   24   24   16   12    8    1
+ */
 typedef struct rondavitse_road {
-    uint64_t surface; /* code */
+    uint64_t surface;
     uint64_t end;
     uint64_t limit;
 } rondavitse_road;
@@ -103,7 +168,7 @@ typedef struct rondavitse_stepped {
     size_t next;    /* the place after the block; where stop is set, the place handed in */
     size_t written; /* the bytes put at the buffer's start */
     uint32_t no;    /* the step's own: 13 or 0; a refused block's number is in its answer */
-    bool stop;      /* nothing is left to run: the input has ended, its next block is malformed, or the step is refused */
+    bool stop;      /* 0 or 1; 1 where nothing is left to run: the input has ended, its next block is malformed, or the step is refused */
 } rondavitse_stepped;
 
 /* Makes an empty lane that was never started, whatever was there: every word becomes 0. */
@@ -120,11 +185,23 @@ uint32_t rondavitse_leave(rondavitse_lane *lane, uint64_t number);
 
 /* Sorts of wishes, and what their value is. */
 enum {
-    RONDAVITSE_UNITS = 0,        /* whole units of 16 bits, signed: (uint32_t)(int32_t)units */
-    RONDAVITSE_ACCELERATION = 1, /* m/s², -16 to 16: the float's bits */
-    RONDAVITSE_TARGET_SPEED = 2, /* m/s, 0 to 64: the float's bits */
+    RONDAVITSE_UNITS = 0,        /* 1/16 m/s², 16 bits signed: rondavitse_units(units) */
+    RONDAVITSE_ACCELERATION = 1, /* m/s², -16 to 16: rondavitse_float(acceleration) */
+    RONDAVITSE_TARGET_SPEED = 2, /* m/s, 0 to 64: rondavitse_float(speed) */
     RONDAVITSE_HOLD = 3          /* anything */
 };
+
+/* A number wider than an element of `sorts` or `values` is cut by C itself where a host stores it, before a call can see it. These two make
+ * values in which nothing is lost: units past 16 bits become a value that a cycle refuses with 11. */
+static inline uint32_t rondavitse_units(int64_t units) {
+    return units >= INT16_MIN && units <= INT16_MAX ? (uint32_t)units : UINT32_C(0x8000);
+}
+
+static inline uint32_t rondavitse_float(float value) {
+    uint32_t bits;
+    memcpy(&bits, &value, sizeof bits);
+    return bits;
+}
 
 /* One cycle: the wish of place i is of sort sorts[i] with values[i], and the first `count` are looked at. A wish stands, or guaranteed
  * braking is put in its place. Checks: 21, 27, 28, 12, 11, 7. */

@@ -23,6 +23,7 @@ def svg(story):
 def elements(story):
     scale = Scale(story)
     yield f'<svg xmlns="http://www.w3.org/2000/svg" viewBox="0 0 {WIDTH} {HEIGHT}" width="{WIDTH}" height="{HEIGHT}">'
+    yield f"<title>{summary(story)}</title>"
     yield f"<style>{STYLE}</style>"
     yield f'<rect width="{WIDTH}" height="{HEIGHT}" fill="white"/>'
     yield from legend()
@@ -34,7 +35,19 @@ def elements(story):
         yield number(scale, track, COLOURS[index % len(COLOURS)])
     for time, position, refusal in story.refusals:
         yield from refused(scale.x(time), scale.y(position), refusal)
+    if story.cut:
+        yield f'<text x="{WIDTH - RIGHT}" y="{HEIGHT - 10}" text-anchor="end">malformed text follows: nothing of it was run</text>'
     yield "</svg>"
+
+
+def summary(story):
+    """What the picture shows, in a line."""
+    ends = [track.end for track in story.tracks]
+    replaced = sum(len(track.replaced) for track in story.tracks)
+    return (
+        f"Cycles run: {story.time}; carriers entered: {len(ends)}, left: {ends.count('left')}, gone at the lane end: {ends.count('gone')}; "
+        f"entries refused: {len(story.refusals)}; wishes replaced: {replaced}"
+    )
 
 
 class Scale:

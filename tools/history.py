@@ -1,8 +1,10 @@
-"""What the carriers of an input did, learnt from the program's answers."""
+"""What the carriers of an input, any bytes, did, learnt from the program's answers."""
+import re
 import subprocess
 from dataclasses import dataclass, field
 
 LONGEST_INPUT = 65536
+LINES = {b"start": 5, b"enter": 4, b"leave": 2, b"show": 1}  # of a block; those of a cycle are two and its wishes
 
 
 class Unfit(Exception):
@@ -26,33 +28,45 @@ class Story:
     time: int = 0  # cycles run
     tracks: list = field(default_factory=list)
     refusals: list = field(default_factory=list)  # entries refused: time, position, number of the refusal
+    cut: bool = False  # malformed text follows, of which nothing was run
 
 
 def of(text, program):
     """The story of an input, with the lane shown after each block."""
-    blocks = split(text, ("call=",))
-    watched = "".join(block + "call=show\n" for block in blocks)
+    blocks, rest = split(text)
+    watched = b"".join(block + b"call=show\n" for block in blocks) + rest
     if len(watched) > LONGEST_INPUT:
         raise Unfit(f"with the lane shown after each block the input has more than {LONGEST_INPUT} bytes")
-    run = subprocess.run([program], input=watched, capture_output=True, text=True, check=False)
-    answers = split(run.stdout, ("ok=", "no="))
+    run = subprocess.run([program], input=watched, capture_output=True, check=False)
     teller = Teller()
-    # After malformed text the program reads no further: that block has an answer but no lane beside it, and is left out.
-    for block, answer, shown in zip(blocks, answers[::2], answers[1::2]):
-        teller.take(fields(block), fields(answer), carriers(shown))
+    try:
+        answers = re.split(r"^(?=ok=|no=)", run.stdout.decode(), flags=re.M)[1:]
+        # Malformed text has an answer but no lane beside it, and is left out.
+        for block, answer, shown in zip(blocks, answers[::2], answers[1::2]):
+            teller.take(fields(block.decode()), fields(answer), carriers(shown))
+    except (ValueError, LookupError):
+        raise Unfit(f"{program} does not answer as the supervisor does") from None
+    teller.story.cut = len(answers) % 2 == 1
     if not teller.story.tracks:
         raise Unfit("no carrier enters")
     return teller.story
 
 
-def split(text, heads):
-    """The parts of a text that begin with a line of one of the heads."""
-    parts = []
-    for line in text.splitlines(keepends=True):
-        if line.startswith(heads) or not parts:
-            parts.append("")
-        parts[-1] += line
-    return parts
+def split(text):
+    """The blocks of a text by their numbers of lines, and what is left from the first line on that begins none or has too few after it."""
+    lines, blocks, at = re.findall(rb"[^\n]*\n", text), [], 0
+    while (length := block_length(lines[at : at + 2])) and at + length <= len(lines):
+        blocks.append(b"".join(lines[at : at + length]))
+        at += length
+    return blocks, text[sum(map(len, blocks)) :]
+
+
+def block_length(lines):
+    """The lines of the block that begins with these two; 0 if none does."""
+    head = re.match(rb"call=(?:cycle\ncars=(\d{1,2})|(\w+))\n", b"".join(lines))
+    if not head:
+        return 0
+    return 2 + int(head[1]) if head[1] else LINES.get(head[2], 0)
 
 
 def fields(block):

@@ -1,10 +1,7 @@
 /* That the header's structs are those of the library: sizes as expected, and every field that a function is handed or gives back
  * is where the header says. Each word is given a value that no other one has. */
-#include "rondavitse.h"
+#include "compare.h"
 
-#include <inttypes.h>
-#include <stdio.h>
-#include <stdlib.h>
 #include <string.h>
 
 /* C99 has no static assertion: an array of a negative size stops the compiler. */
@@ -64,16 +61,6 @@ enum { MOST = RONDAVITSE_MOST_CARRIERS, WORDS = sizeof(rondavitse_lane) / sizeof
 
 static const rondavitse_road ROAD = {.surface = 5, .end = 0x7A6B5C4D, .limit = 0x1E2D};
 static const uint64_t CYCLE = 0x1122334455667788;
-
-static unsigned compared, differing;
-
-static void same(const char *call, const char *field, uint64_t got, uint64_t wanted) {
-    compared++;
-    if (got != wanted) {
-        differing++;
-        printf("%s: %s is %" PRIX64 " in place of %" PRIX64 "\n", call, field, got, wanted);
-    }
-}
 
 /* Every word of a lane, free ones included. */
 static void same_words(const char *call, const rondavitse_lane *got, const rondavitse_lane *wanted) {
@@ -413,6 +400,7 @@ static void check_refused_cycles(void) {
 }
 
 int main(void) {
+    same("version", "number", rondavitse_version(), RONDAVITSE_VERSION);
     check_empty();
     check_start();
     check_enter();
@@ -425,6 +413,5 @@ int main(void) {
     check_unsound();
     check_refused_arguments();
     check_refused_cycles();
-    printf("%u values compared, %u differ\n", compared, differing);
-    return differing == 0 ? EXIT_SUCCESS : EXIT_FAILURE;
+    return verdict();
 }

@@ -4,7 +4,6 @@
 
 #include <stdio.h>
 #include <stdlib.h>
-#include <string.h>
 
 enum {
     METRE = 2048,           /* positions count 1/2048 m */
@@ -14,7 +13,7 @@ enum {
     LANE_END = 400 * METRE,
     SPEED_LIMIT = 20 * METRE_PER_SECOND,
     SIDE_ROAD = 120 * METRE,
-    LAST_REFUSAL = 28
+    LAST_REFUSAL = RONDAVITSE_CYCLES_EXHAUSTED
 };
 
 #define EXIT_POSITION 300.0 /* m */
@@ -28,10 +27,17 @@ typedef struct {
     double fastest;                     /* m/s */
 } host;
 
+static void expect_version(void) {
+    if (rondavitse_version() != RONDAVITSE_VERSION) {
+        fprintf(stderr, "header and library do not belong together\n");
+        exit(EXIT_FAILURE);
+    }
+}
+
 /* For the calls that this host makes only when they cannot be refused. */
 static void expect_accepted(const char *call, uint32_t no) {
-    if (no != 0) {
-        fprintf(stderr, "%s refused: %u\n", call, (unsigned)no);
+    if (no != RONDAVITSE_ACCEPTED) {
+        fprintf(stderr, "%s refused: %s\n", call, rondavitse_words(no));
         exit(EXIT_FAILURE);
     }
 }
@@ -47,7 +53,7 @@ static void start(host *h) {
 static void try_entry(host *h, uint64_t position, uint64_t speed) {
     const rondavitse_carrier carrier = {.number = h->next_number, .position = position, .speed = speed};
     const rondavitse_entered answer = rondavitse_enter(&h->lane, carrier);
-    if (answer.no == 0) {
+    if (answer.no == RONDAVITSE_ACCEPTED) {
         h->next_number++;
         h->admitted++;
     } else {
@@ -64,27 +70,21 @@ static void let_carriers_in(host *h, int cycle) {
     }
 }
 
-static uint32_t float_bits(float value) {
-    uint32_t bits;
-    memcpy(&bits, &value, sizeof bits);
-    return bits;
-}
-
 typedef struct {
     uint8_t sort;
     uint32_t value;
 } wish;
 
-static wish units(int32_t units) {
-    return (wish){RONDAVITSE_UNITS, (uint32_t)units};
+static wish units(int64_t units) {
+    return (wish){RONDAVITSE_UNITS, rondavitse_units(units)};
 }
 
 static wish acceleration(float metres_per_second_squared) {
-    return (wish){RONDAVITSE_ACCELERATION, float_bits(metres_per_second_squared)};
+    return (wish){RONDAVITSE_ACCELERATION, rondavitse_float(metres_per_second_squared)};
 }
 
 static wish target_speed(float metres_per_second) {
-    return (wish){RONDAVITSE_TARGET_SPEED, float_bits(metres_per_second)};
+    return (wish){RONDAVITSE_TARGET_SPEED, rondavitse_float(metres_per_second)};
 }
 
 static wish hold(void) {
@@ -163,9 +163,9 @@ static void print_summary(const host *h) {
     expect_accepted("lane text", answer.no);
     printf("cycles run: %d\n", CYCLES);
     printf("entries admitted: %u\n", h->admitted);
-    for (int no = 1; no <= LAST_REFUSAL; no++) {
+    for (unsigned no = 1; no <= LAST_REFUSAL; no++) {
         if (h->refused[no] > 0) {
-            printf("entries refused with %d: %u\n", no, h->refused[no]);
+            printf("entries refused with %u (%s): %u\n", no, rondavitse_words(no), h->refused[no]);
         }
     }
     printf("wishes replaced: %u\n", h->replaced);
@@ -180,6 +180,7 @@ static void print_summary(const host *h) {
 
 int main(void) {
     host h;
+    expect_version();
     start(&h);
     for (int cycle = 0; cycle < CYCLES; cycle++) {
         let_carriers_in(&h, cycle);

@@ -9,6 +9,7 @@ ghost use Rattle.lane.specs.Calls.{namedCarrier};
 ghost use Rattle.lane.specs.Call.{start-call, enter-call, leave-call, read-call, text-call, bare, entered, cycled, readOut, listed, Gives};
 ghost use Rattle.lane.specs.Given.{GivesWith};
 ghost use Rattle.console.specs.Program.{stepInto, StepGives};
+ghost use Rattle.host.specs.Version.{version};
 use console::Stepped;
 use lane::Carrier;
 use lane::Cycled;
@@ -17,6 +18,14 @@ use lane::Lane;
 use lane::Listed;
 use lane::ReadOut;
 use lane::Road;
+
+// For a host to find, before its first call, that its header is that of the library.
+#[no_mangle]
+pub extern "C" fn rondavitse_version() -> u32
+    ensures { λ r. ⌜ r ≡ version ⌝ }
+{
+    1
+}
 
 #[no_mangle]
 pub extern "C" fn rondavitse_empty(l: &mut Lane)

@@ -1,5 +1,7 @@
 //! The functions and structs of `rondavitse.h`.
 
+/// The interface that this file is for.
+pub const VERSION: u32 = 1;
 pub const MOST_CARRIERS: usize = 64;
 pub const LONGEST_TEXT: usize = 2_248;
 pub const ANSWER_BUFFER: usize = 4_096;
@@ -124,6 +126,7 @@ impl Lane {
 // pointer beside a length lends so many elements, and that what is written to
 // overlaps nothing else that is lent. For the lane its reference sees to that.
 extern "C" {
+    pub fn rondavitse_version() -> u32;
     pub fn rondavitse_empty(lane: &mut Lane);
     pub fn rondavitse_start(lane: &mut Lane, road: Road, first: u64) -> u32;
     pub fn rondavitse_enter(lane: &mut Lane, carrier: Carrier) -> Entered;

@@ -51,8 +51,14 @@ impl Wish {
 }
 
 impl Lane {
-    /// An empty lane, just started.
+    /// An empty lane, just started. Panics where the linked library is of
+    /// another version than the binding.
     pub fn started(road: Road, first: u64) -> Result<Lane, Refusal> {
+        assert_eq!(
+            unsafe { rondavitse_version() },
+            VERSION,
+            "the library's version"
+        );
         let mut lane = Lane(binding::Lane::EMPTY);
         lane.start(road, first)?;
         Ok(lane)

@@ -117,7 +117,7 @@ impl Host {
         println!("cycles run: {CYCLES}");
         println!("entries admitted: {}", self.admitted);
         for (refusal, times) in &self.refused {
-            println!("entries refused with {}: {times}", refusal.number());
+            println!("entries refused with {refusal}: {times}");
         }
         println!("wishes replaced: {}", self.replaced);
         println!("carriers out by the exit: {}", self.left);

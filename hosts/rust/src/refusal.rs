@@ -3,7 +3,7 @@
 use std::error::Error;
 use std::fmt::{self, Display, Formatter};
 
-/// Why a call is refused.
+/// Why a call is refused: the header's numbers and names.
 #[derive(Clone, Copy, Debug, PartialEq, Eq, PartialOrd, Ord)]
 #[repr(u32)]
 pub enum Refusal {
@@ -15,7 +15,7 @@ pub enum Refusal {
     SpeedAboveLimit = 6,
     FloatOutOfRange = 7,
     TextMalformed = 8,
-    BufferTooShort = 9,
+    TextBufferTooShort = 9,
     InputTooLong = 10,
     WishUnknown = 11,
     WishesTooFew = 12,
@@ -32,31 +32,41 @@ pub enum Refusal {
 
 use Refusal::*;
 
-impl Refusal {
-    pub const ALL: [Refusal; 21] = [
-        SurfaceUnknown,
-        EndOutOfRange,
-        LimitOutOfRange,
-        NumberOutOfRange,
-        PositionPastEnd,
-        SpeedAboveLimit,
-        FloatOutOfRange,
-        TextMalformed,
-        BufferTooShort,
-        InputTooLong,
+/// Every refusal and what it says.
+const WORDS: [(Refusal, &str); 21] = [
+    (SurfaceUnknown, "surface above 7"),
+    (EndOutOfRange, "lane end outside 1 to 2^31"),
+    (LimitOutOfRange, "limit outside 1 to 8,192"),
+    (NumberOutOfRange, "carrier number 0, or above 65,535"),
+    (PositionPastEnd, "position at or past the end"),
+    (SpeedAboveLimit, "speed above the limit"),
+    (FloatOutOfRange, "a float outside its range"),
+    (TextMalformed, "malformed text"),
+    (TextBufferTooShort, "lane text longer than the buffer"),
+    (InputTooLong, "program input above 65,536 bytes"),
+    (
         WishUnknown,
-        WishesTooFew,
+        "a wish of no sort that exists, or units past 16 bits",
+    ),
+    (WishesTooFew, "an array of wishes shorter than the count"),
+    (
         AnswerBufferTooShort,
+        "a buffer for answers shorter than 4,096 bytes",
+    ),
+    (
         LaneUnsound,
-        LaneFull,
-        NumberPresent,
-        NumberAbsent,
-        UnsafeBehindLeader,
-        FollowerUnsafe,
-        CountDiffers,
-        CyclesExhausted,
-    ];
+        "never started, or the lane handed in breaks a rule",
+    ),
+    (LaneFull, "64 carriers present"),
+    (NumberPresent, "number present"),
+    (NumberAbsent, "number absent"),
+    (UnsafeBehindLeader, "not safe behind the carrier ahead"),
+    (FollowerUnsafe, "the carrier behind not safe"),
+    (CountDiffers, "count differs from the carriers present"),
+    (CyclesExhausted, "cycle number is 2^64 - 1"),
+];
 
+impl Refusal {
     pub fn number(self) -> u32 {
         self as u32
     }
@@ -66,14 +76,19 @@ impl Refusal {
         if no == 0 {
             return Ok(());
         }
-        let refusal = Refusal::ALL.into_iter().find(|r| r.number() == no);
-        Err(refusal.expect("a number that the header lists"))
+        let found = WORDS.iter().find(|(refusal, _)| refusal.number() == no);
+        Err(found.expect("a number that the header lists").0)
+    }
+
+    pub fn words(self) -> &'static str {
+        let found = WORDS.iter().find(|(refusal, _)| *refusal == self);
+        found.expect("every refusal has words").1
     }
 }
 
 impl Display for Refusal {
     fn fmt(&self, formatter: &mut Formatter) -> fmt::Result {
-        write!(formatter, "{} ({self:?})", self.number())
+        write!(formatter, "{} ({})", self.number(), self.words())
     }
 }
 

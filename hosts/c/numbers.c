@@ -1,0 +1,56 @@
+/* That no number is cut in silence and every refusal has words: what the header's inline functions give, and what the library makes of it. */
+#include "compare.h"
+
+#include <string.h>
+
+enum { SPEED = 1000 };
+
+/* One carrier, on a dry lane. */
+static rondavitse_lane lane_of_one(void) {
+    rondavitse_lane lane;
+    rondavitse_empty(&lane);
+    rondavitse_start(&lane, (rondavitse_road){.surface = 0, .end = RONDAVITSE_FARTHEST_END, .limit = RONDAVITSE_FASTEST}, 0);
+    rondavitse_enter(&lane, (rondavitse_carrier){.number = 1, .position = 0, .speed = SPEED});
+    return lane;
+}
+
+/* A wish of these units gives `no`, and changes the speed by so much. */
+static void check_units(int64_t units, uint32_t no, int change) {
+    const uint8_t sort = RONDAVITSE_UNITS;
+    const uint32_t value = rondavitse_units(units);
+    rondavitse_lane lane = lane_of_one();
+    same("units", "no", rondavitse_cycle(&lane, 1, &sort, 1, &value, 1).no, no);
+    same("units", "speed", lane.records[0].speed, (uint64_t)(SPEED + change));
+}
+
+static void check_all_units(void) {
+    const int64_t past[] = {-32769, 32768, 65536, INT64_C(1) << 32, (INT64_C(1) << 32) + 5, -(INT64_C(1) << 32), INT64_MIN, INT64_MAX};
+    check_units(5, RONDAVITSE_ACCEPTED, 5);
+    check_units(-5, RONDAVITSE_ACCEPTED, -5);
+    check_units(-32768, RONDAVITSE_ACCEPTED, -128); /* trimmed to the surface's hardest braking */
+    check_units(32767, RONDAVITSE_ACCEPTED, 32);    /* and to its most acceleration */
+    for (size_t i = 0; i < sizeof past / sizeof past[0]; i++) {
+        check_units(past[i], RONDAVITSE_WISH_UNKNOWN, 0);
+    }
+}
+
+static void check_floats(void) {
+    same("float", "1.5", rondavitse_float(1.5f), 0x3FC00000);
+    same("float", "-16", rondavitse_float(-16.0f), 0xC1800000);
+    same("float", "-0", rondavitse_float(-0.0f), 0x80000000);
+}
+
+static void check_words(void) {
+    for (uint32_t no = 0; no < 100; no++) {
+        const bool known = no <= 13 || (no >= 21 && no <= 28);
+        same("words", "known", strcmp(rondavitse_words(no), "unknown refusal") != 0, known);
+    }
+    same("words", "of the largest number", (uint64_t)strcmp(rondavitse_words(UINT32_MAX), "unknown refusal"), 0);
+}
+
+int main(void) {
+    check_all_units();
+    check_floats();
+    check_words();
+    return verdict();
+}

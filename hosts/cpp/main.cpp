@@ -1,0 +1,79 @@
+// A short host in C++: the lane as a class over the C header, in which a refused call throws its words.
+#include "rondavitse.h"
+
+#include <cinttypes>
+#include <cstdio>
+#include <stdexcept>
+#include <vector>
+
+struct Wish {
+    uint8_t sort;
+    uint32_t value;
+};
+
+class Lane {
+  public:
+    Lane(rondavitse_road road, uint64_t first) {
+        if (rondavitse_version() != RONDAVITSE_VERSION) {
+            throw std::logic_error("header and library do not belong together");
+        }
+        rondavitse_empty(&words);
+        check(rondavitse_start(&words, road, first));
+    }
+
+    size_t enter(rondavitse_carrier carrier) {
+        const rondavitse_entered answer = rondavitse_enter(&words, carrier);
+        check(answer.no);
+        return answer.place;
+    }
+
+    rondavitse_cycled cycle(const std::vector<Wish> &wishes) {
+        std::vector<uint8_t> sorts;
+        std::vector<uint32_t> values;
+        for (const Wish &wish : wishes) {
+            sorts.push_back(wish.sort);
+            values.push_back(wish.value);
+        }
+        const rondavitse_cycled answer = rondavitse_cycle(&words, wishes.size(), sorts.data(), sorts.size(), values.data(), values.size());
+        check(answer.no);
+        return answer;
+    }
+
+    rondavitse_reading read(uint64_t number) const {
+        const rondavitse_read_out answer = rondavitse_read(&words, number);
+        check(answer.no);
+        return answer.reading;
+    }
+
+  private:
+    static void check(uint32_t no) {
+        if (no != RONDAVITSE_ACCEPTED) {
+            throw std::runtime_error(rondavitse_words(no));
+        }
+    }
+
+    rondavitse_lane words;
+};
+
+int main() {
+    Lane lane({0, 10000, 1000}, 0);
+    for (const rondavitse_carrier carrier : {rondavitse_carrier{7, 1000, 0}, {8, 700, 64}, {9, 700, 64}}) {
+        try {
+            std::printf("carrier %" PRIu64 " enters at place %zu\n", carrier.number, lane.enter(carrier));
+        } catch (const std::runtime_error &refusal) {
+            std::printf("carrier %" PRIu64 " refused: %s\n", carrier.number, refusal.what());
+        }
+    }
+    for (const int64_t units : {INT64_C(4294967328), INT64_C(32)}) { // the first would be 32 if it were cut
+        try {
+            const auto answer = lane.cycle({{RONDAVITSE_HOLD, 0}, {RONDAVITSE_UNITS, rondavitse_units(units)}});
+            std::printf("cycle: replaced %016" PRIX64 ", gone %" PRIu32 "\n", answer.word, answer.gone);
+        } catch (const std::runtime_error &refusal) {
+            std::printf("cycle refused: %s\n", refusal.what());
+        }
+    }
+    for (const uint64_t number : {7, 8}) {
+        const rondavitse_reading reading = lane.read(number);
+        std::printf("carrier %" PRIu64 ": %.11f m, %.7f m/s\n", number, reading.position, reading.speed);
+    }
+}

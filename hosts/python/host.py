@@ -1,0 +1,87 @@
+"""A short host in Python over a shared library, made of libhost.a and shared.c: host.py SHARED_LIBRARY. A refused call raises its words."""
+import ctypes
+import sys
+from ctypes import byref, c_char_p, c_double, c_size_t, c_uint8, c_uint32, c_uint64
+
+VERSION, WORDS_OF_A_LANE = 1, 712  # of the interface that the structs below are of
+UNITS, HOLD = 0, 3
+
+
+def struct(**fields):
+    return type("Struct", (ctypes.Structure,), {"_fields_": list(fields.items())})
+
+
+Lane = c_uint64 * WORDS_OF_A_LANE
+Three = struct(first=c_uint64, second=c_uint64, third=c_uint64)  # a road or a carrier
+Entered = struct(no=c_uint32, place=c_size_t)
+Cycled = struct(no=c_uint32, word=c_uint64, replaced=c_uint32, gone=c_uint32)
+ReadOut = struct(no=c_uint32, position=c_double, speed=c_double)
+
+
+class Refused(Exception):
+    pass
+
+
+def wide(number):
+    """A number for 64 bits; one that does not fit them raises, where ctypes would cut it in silence."""
+    return c_uint64.from_buffer_copy(number.to_bytes(8, "little"))
+
+
+def units(number):
+    """As the header's rondavitse_units."""
+    return number & 0xFFFFFFFF if -0x8000 <= number < 0x8000 else 0x8000
+
+
+class Supervisor:
+    def __init__(self, path, road, first):
+        self.library, self.lane = ctypes.CDLL(path), Lane()  # of zeros: empty and never started
+        if self.called("version", c_uint32) != VERSION:
+            raise ImportError(f"{path} is of another version")
+        self.check(self.called("start", c_uint32, byref(self.lane), Three(*map(wide, road)), wide(first)))
+
+    def called(self, name, result, *arguments):
+        function = self.library["rondavitse_" + name]
+        function.restype = result
+        return function(*arguments)
+
+    def check(self, no):
+        if no:
+            raise Refused(self.called("shared_words", c_char_p, c_uint32(no)).decode())
+
+    def answer(self, name, result, *arguments):
+        answer = self.called(name, result, byref(self.lane), *arguments)
+        self.check(answer.no)
+        return answer
+
+    def enter(self, *carrier):
+        return self.answer("enter", Entered, Three(*map(wide, carrier))).place
+
+    def cycle(self, wishes):
+        count = c_size_t(len(wishes))
+        sorts = (c_uint8 * len(wishes))(*(sort for sort, _ in wishes))
+        values = (c_uint32 * len(wishes))(*(value for _, value in wishes))
+        return self.answer("cycle", Cycled, count, sorts, count, values, count)
+
+    def read(self, number):
+        return self.answer("read", ReadOut, wide(number))
+
+
+def main():
+    lane = Supervisor(sys.argv[1], (0, 10000, 1000), 0)
+    for carrier in ((7, 1000, 0), (8, 700, 64), (9, 700, 64)):
+        try:
+            print(f"carrier {carrier[0]} enters at place {lane.enter(*carrier)}")
+        except Refused as refusal:
+            print(f"carrier {carrier[0]} refused: {refusal}")
+    for number in (4294967328, 32):  # the first would be 32 if it were cut
+        try:
+            answer = lane.cycle([(HOLD, 0), (UNITS, units(number))])
+            print(f"cycle: replaced {answer.word:016X}, gone {answer.gone}")
+        except Refused as refusal:
+            print(f"cycle refused: {refusal}")
+    for number in (7, 8):
+        reading = lane.read(number)
+        print(f"carrier {number}: {reading.position:.11f} m, {reading.speed:.7f} m/s")
+
+
+main()
