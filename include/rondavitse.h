@@ -14,6 +14,7 @@
  * The library, libhost.a, is for x86-64 Linux and its C calling convention (System V), and position independent. It needs memcpy and memset
  * and nothing else, has no state of its own and allocates nothing: any threads may call it at once, each with a lane of its own. No call
  * takes more than RONDAVITSE_MOST_STACK bytes of stack, beside what memcpy and memset take, and the dynamic linker where it finds them late.
+ * Answers are the same in every mode of the processor's floating point, as -ffast-math may set one, and no call raises an exception there.
  */
 #ifndef RONDAVITSE_H
 #define RONDAVITSE_H
@@ -43,7 +44,7 @@ uint32_t rondavitse_version(void);
 #define RONDAVITSE_MOST_STACK 4096       /* bytes */
 
 /* What the `no` of an answer says. 8 stands in the text of a step's answer alone, and 10 is the program's own. */
-enum {
+enum rondavitse_refusal {
     RONDAVITSE_ACCEPTED = 0,
     RONDAVITSE_SURFACE_UNKNOWN = 1,
     RONDAVITSE_END_OUT_OF_RANGE = 2,
