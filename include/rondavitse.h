@@ -192,8 +192,9 @@ enum {
     RONDAVITSE_HOLD = 3          /* anything */
 };
 
-/* A number wider than an element of `sorts` or `values` is cut by C itself where a host stores it, before a call can see it. These two make
- * values in which nothing is lost: units past 16 bits become a value that a cycle refuses with 11. */
+/* A number wider than an element of `sorts` or `values` is cut by C itself where a host stores it, before a call can see it. These two cut
+ * nothing: units past 16 bits become a value that a cycle refuses with 11. What C converts for their own arguments they cannot see, as a
+ * double that it rounds to a float, or unsigned units of 64 bits: -Wconversion warns of that. */
 static inline uint32_t rondavitse_units(int64_t units) {
     return units >= INT16_MIN && units <= INT16_MAX ? (uint32_t)units : UINT32_C(0x8000);
 }

@@ -1,10 +1,16 @@
-// A short host in C++: the lane as a class over the C header, in which a refused call throws its words.
+// A short host in C++: the lane as a class over the C header, in which a refused call throws its number and words.
 #include "rondavitse.h"
 
+#include <array>
 #include <cinttypes>
 #include <cstdio>
 #include <stdexcept>
 #include <vector>
+
+struct Refused : std::runtime_error {
+    explicit Refused(uint32_t no) : std::runtime_error(rondavitse_words(no)), no(no) {}
+    uint32_t no;
+};
 
 struct Wish {
     uint8_t sort;
@@ -28,11 +34,11 @@ class Lane {
     }
 
     rondavitse_cycled cycle(const std::vector<Wish> &wishes) {
-        std::vector<uint8_t> sorts;
-        std::vector<uint32_t> values;
-        for (const Wish &wish : wishes) {
-            sorts.push_back(wish.sort);
-            values.push_back(wish.value);
+        std::array<uint8_t, RONDAVITSE_MOST_CARRIERS> sorts; // never null, as a vector's data may be; past their end the call gives 27
+        std::array<uint32_t, RONDAVITSE_MOST_CARRIERS> values;
+        for (size_t i = 0; i < wishes.size() && i < sorts.size(); i++) {
+            sorts[i] = wishes[i].sort;
+            values[i] = wishes[i].value;
         }
         const rondavitse_cycled answer = rondavitse_cycle(&words, wishes.size(), sorts.data(), sorts.size(), values.data(), values.size());
         check(answer.no);
@@ -48,7 +54,7 @@ class Lane {
   private:
     static void check(uint32_t no) {
         if (no != RONDAVITSE_ACCEPTED) {
-            throw std::runtime_error(rondavitse_words(no));
+            throw Refused(no);
         }
     }
 
@@ -60,16 +66,16 @@ int main() {
     for (const rondavitse_carrier carrier : {rondavitse_carrier{7, 1000, 0}, {8, 700, 64}, {9, 700, 64}}) {
         try {
             std::printf("carrier %" PRIu64 " enters at place %zu\n", carrier.number, lane.enter(carrier));
-        } catch (const std::runtime_error &refusal) {
-            std::printf("carrier %" PRIu64 " refused: %s\n", carrier.number, refusal.what());
+        } catch (const Refused &refusal) {
+            std::printf("carrier %" PRIu64 " refused by %" PRIu32 ": %s\n", carrier.number, refusal.no, refusal.what());
         }
     }
     for (const int64_t units : {INT64_C(4294967328), INT64_C(32)}) { // the first would be 32 if it were cut
         try {
             const auto answer = lane.cycle({{RONDAVITSE_HOLD, 0}, {RONDAVITSE_UNITS, rondavitse_units(units)}});
             std::printf("cycle: replaced %016" PRIX64 ", gone %" PRIu32 "\n", answer.word, answer.gone);
-        } catch (const std::runtime_error &refusal) {
-            std::printf("cycle refused: %s\n", refusal.what());
+        } catch (const Refused &refusal) {
+            std::printf("cycle refused by %" PRIu32 ": %s\n", refusal.no, refusal.what());
         }
     }
     for (const uint64_t number : {7, 8}) {

@@ -1,4 +1,7 @@
-"""A short host in Python over a shared library, made of libhost.a and shared.c: host.py SHARED_LIBRARY. A refused call raises its words."""
+"""A short host in Python over a shared library, made of libhost.a and shared.c. A refused call raises its number and words.
+
+Usage: host.py SHARED_LIBRARY
+"""
 import ctypes
 import sys
 from ctypes import byref, c_char_p, c_double, c_size_t, c_uint8, c_uint32, c_uint64
@@ -19,12 +22,17 @@ ReadOut = struct(no=c_uint32, position=c_double, speed=c_double)
 
 
 class Refused(Exception):
-    pass
+    """Its arguments are the refusal's number and words."""
+
+
+def array(element, numbers):
+    """Numbers as C's; one that its element cannot hold raises OverflowError, where ctypes would cut it in silence."""
+    size = ctypes.sizeof(element)
+    return (element * len(numbers)).from_buffer_copy(b"".join(number.to_bytes(size, "little") for number in numbers))
 
 
 def wide(number):
-    """A number for 64 bits; one that does not fit them raises, where ctypes would cut it in silence."""
-    return c_uint64.from_buffer_copy(number.to_bytes(8, "little"))
+    return c_uint64(*array(c_uint64, [number]))
 
 
 def units(number):
@@ -46,42 +54,42 @@ class Supervisor:
 
     def check(self, no):
         if no:
-            raise Refused(self.called("shared_words", c_char_p, c_uint32(no)).decode())
+            raise Refused(no, self.called("shared_words", c_char_p, c_uint32(no)).decode())
 
     def answer(self, name, result, *arguments):
         answer = self.called(name, result, byref(self.lane), *arguments)
         self.check(answer.no)
         return answer
 
-    def enter(self, *carrier):
-        return self.answer("enter", Entered, Three(*map(wide, carrier))).place
+    def enter(self, number, position, speed):
+        return self.answer("enter", Entered, Three(wide(number), wide(position), wide(speed))).place
 
     def cycle(self, wishes):
         count = c_size_t(len(wishes))
-        sorts = (c_uint8 * len(wishes))(*(sort for sort, _ in wishes))
-        values = (c_uint32 * len(wishes))(*(value for _, value in wishes))
+        sorts, values = (array(element, [wish[i] for wish in wishes]) for i, element in enumerate((c_uint8, c_uint32)))
         return self.answer("cycle", Cycled, count, sorts, count, values, count)
 
     def read(self, number):
         return self.answer("read", ReadOut, wide(number))
 
 
-def main():
-    lane = Supervisor(sys.argv[1], (0, 10000, 1000), 0)
+def main(path):
+    lane = Supervisor(path, (0, 10000, 1000), 0)
     for carrier in ((7, 1000, 0), (8, 700, 64), (9, 700, 64)):
         try:
             print(f"carrier {carrier[0]} enters at place {lane.enter(*carrier)}")
         except Refused as refusal:
-            print(f"carrier {carrier[0]} refused: {refusal}")
+            print("carrier {} refused by {}: {}".format(carrier[0], *refusal.args))
     for number in (4294967328, 32):  # the first would be 32 if it were cut
         try:
             answer = lane.cycle([(HOLD, 0), (UNITS, units(number))])
             print(f"cycle: replaced {answer.word:016X}, gone {answer.gone}")
         except Refused as refusal:
-            print(f"cycle refused: {refusal}")
+            print("cycle refused by {}: {}".format(*refusal.args))
     for number in (7, 8):
         reading = lane.read(number)
         print(f"carrier {number}: {reading.position:.11f} m, {reading.speed:.7f} m/s")
 
 
-main()
+if __name__ == "__main__":
+    main(sys.argv[1]) if len(sys.argv) == 2 else sys.exit(__doc__)
