@@ -118,7 +118,8 @@ def record_parameters(head):
 
 
 def bodies(known, index):
-    """The texts of a definition, each with the name of its argument at an index: one for each clause, or each field of a record."""
+    """The texts of a definition, each with the name of its argument at an index, or of a part of it where a clause takes it apart: of each
+    clause, or of each field of a record."""
     declaration = known.declaration
     if declaration.kind in ("record", "data"):
         head, _, body = declaration.text.partition(" where")
@@ -129,8 +130,10 @@ def bodies(known, index):
     for clause in re.split(rf"\n(?={re.escape(declaration.name)}\s)", declaration.text)[1:]:
         left, equals, right = re.split(r"(?<=\s)(=)(?=\s)", clause, maxsplit=1) if re.search(r"\s=\s", clause) else (clause, "", "")
         patterns = [token for token in tree(left)[1:] if not implicit(token)]
-        if equals and index < len(patterns) and isinstance(patterns[index], str):
-            found.append((plain(patterns[index]), right))
+        if equals and index < len(patterns):
+            pattern = patterns[index]
+            names = [pattern] if isinstance(pattern, str) else [part for part in pattern[1:] if isinstance(part, str)]
+            found += [(plain(name), right) for name in names]
     return found
 
 

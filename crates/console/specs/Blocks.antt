@@ -3,7 +3,7 @@ use Prim.Native.Nat.{ℕ, zero, suc, _+_, _-_, _≤_}
 use mathlib.Core.Path.{_≡_}
 use mathlib.Core.Bool.{Bool, true, false, cond}
 use mathlib.Core.List.{List, [], _∷_, _++_}
-use lib.Ieee.{Float}
+use lib.Ieee.{Float, binary32, ofBits}
 use lib.ListN.{length, drop, replicate}
 use Rattle.text.specs.declared.numbers.Number.{Number}
 use Rattle.text.specs.declared.numbers.Number.the-variants as number
@@ -11,7 +11,7 @@ use Rattle.text.specs.declared.numbers.Signed.{Signed}
 use Rattle.text.specs.declared.numbers.Signed.the-variants as signed
 use Rattle.text.specs.Ascii.{ascii}
 use Rattle.text.specs.Fields.{lineLength, startsWith, lineValue, isWord, fieldIn, isNumber, valueIn, signedIn, bitsIn}
-use Rattle.wish.specs.Patterns.{floatOf}
+use Rattle.wish.specs.Units.{unitsOf}
 use Rattle.wish.specs.declared.Wish.{Wish}
 use Rattle.wish.specs.declared.Wish.the-variants.{Units, Acceleration, TargetSpeed, Hold}
 use Rattle.lane.specs.Limits.{mostCarriers, longestText}
@@ -77,7 +77,7 @@ unitsWanted signed.Malformed = Nothing
 
 -- "`accel:` or `speed:` and the float's bits"
 abbrev pub floatWanted : (Float → Wish) → Number → Want
-floatWanted f (number.Is n) = Wanted (f (floatOf n))
+floatWanted f (number.Is n) = Wanted (f (ofBits binary32 n))
 floatWanted f number.Malformed = Nothing
 
 -- "`units:` and a number, `accel:` or `speed:` and the float's bits as eight upper-case hexadecimal digits, or `hold`"
@@ -102,10 +102,15 @@ abbrev pub wishOf : Want → Wish
 wishOf (Wanted w) = w
 wishOf Nothing = Hold
 
--- what is told of the `want=` line at a place: whether there is one, its wish, or hold, and the place after it, or the place itself
+-- what a reader of wishes may give for w: a wish that asks for the same units at every speed, and none where w is none
+pub record WantedAs (w r : Want) : Type 0 where
+  pub ok : isWish r ≡ isWish w
+  pub units : (v : ℕ) → unitsOf (wishOf r) v ≡ unitsOf (wishOf w) v
+
+-- what is told of the `want=` line at a place: whether there is one, a wish with its units, or hold, and the place after it, or the place itself
 pub record WantRead (input : List ℕ) (at : ℕ) (r : Asked) : Type 0 where
   pub ok : r .ok ≡ isWish (wantIn (drop at input))
-  pub wish : r .wish ≡ wishOf (wantIn (drop at input))
+  pub units : (v : ℕ) → unitsOf (r .wish) v ≡ unitsOf (wishOf (wantIn (drop at input))) v
   pub next : r .next ≡ cond (isWish (wantIn (drop at input))) (at + suc (lineLength (drop at input))) at
 
 -- a line with a wish, and what follows it

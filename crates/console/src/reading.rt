@@ -6,7 +6,7 @@ ghost use mathlib.Core.Path.{_≡_};
 ghost use mathlib.Core.Bool.{cond};
 ghost use Rattle.wish.specs.declared.Wish.the-variants.{Acceleration, TargetSpeed};
 ghost use Rattle.text.specs.Fields.{signedIn, bitsIn};
-ghost use Rattle.console.specs.Blocks.{unitsWanted, floatWanted, wishWanted, WantRead};
+ghost use Rattle.console.specs.Blocks.{unitsWanted, floatWanted, wishWanted, WantedAs, WantRead};
 
 // What a line holds: a wish, or none.
 pub(crate) enum Want {
@@ -32,15 +32,14 @@ fn units_wanted(digits: &[u8]) -> Want
 
 // A float's bits: an acceleration, else a target speed.
 fn float_wanted(digits: &[u8], acceleration: bool) -> Want
-    ensures { λ r. ⌜ r ≡ floatWanted (cond acceleration Acceleration TargetSpeed) (bitsIn (now (digits .entry))) ⌝ }
+    ensures { λ r. ⌜ WantedAs (floatWanted (cond acceleration Acceleration TargetSpeed) (bitsIn (now (digits .entry)))) r ⌝ }
 {
     match text::read_bits(digits) {
         Number::Is(n) => {
-            let x = wish::float_of(n as u32);
             if acceleration {
-                return Want::Wanted(Wish::Acceleration(x));
+                return Want::Wanted(wish::acceleration_of(n as u32));
             }
-            Want::Wanted(Wish::TargetSpeed(x))
+            Want::Wanted(wish::target_of(n as u32))
         }
         Number::Malformed => Want::Nothing,
     }
@@ -48,7 +47,7 @@ fn float_wanted(digits: &[u8], acceleration: bool) -> Want
 
 // What a `want=` line's value asks for.
 fn wish_wanted(value: &[u8]) -> Want
-    ensures { λ r. ⌜ r ≡ wishWanted (now (value .entry)) ⌝ }
+    ensures { λ r. ⌜ WantedAs (wishWanted (now (value .entry))) r ⌝ }
 {
     if text::is_word(b"hold", value) {
         return Want::Wanted(Wish::Hold);

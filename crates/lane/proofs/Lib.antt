@@ -1,11 +1,12 @@
--- `Laws`, `CallLaws`, `CycleLaws` and `Answerable` are what the crates above may use; `Cases` is the table of the marked cases. Before them stand the laws behind
--- them and behind the functions, in groups; a function's own proof is in a folder of its module's and its own name.
+-- `Laws`, `Alike`, `CallLaws`, `CycleLaws` and `Answerable` are what the crates above may use; `Cases` is the table of the marked cases. Before them stand the
+-- laws behind them and behind the functions, in groups; a function's own proof is in a folder of its module's and its own name.
 mod lists
 mod checks
 mod driving
 mod calls
 pub mod Laws
 mod Cases
+pub mod Alike
 pub mod CallLaws
 pub mod CycleLaws
 pub mod Answerable

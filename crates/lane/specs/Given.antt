@@ -5,8 +5,8 @@ use mathlib.Core.Bool.{Bool, true, false, _||_, cond}
 use mathlib.Core.List.{List, [], _∷_}
 use lib.Dec.{eqb, ltb}
 use lib.IntN.{pos, negℤ}
+use lib.Ieee.{binary32, ofBits}
 use lib.ListN.{length, take}
-use Rattle.wish.specs.Patterns.{floatOf}
 use Rattle.wish.specs.declared.Wish.{Wish}
 use Rattle.wish.specs.declared.Wish.the-variants.{Units, Acceleration, TargetSpeed, Hold}
 use Rattle.lane.specs.declared.given.Made.{Made}
@@ -26,8 +26,8 @@ unitsMade value =
 unfoldable pub wishMade : (sort value : ℕ) → Made
 wishMade sort value =
     cond (eqb sort 0) (unitsMade value)
-    (cond (eqb sort 1) (Of (Acceleration (floatOf value)))
-    (cond (eqb sort 2) (Of (TargetSpeed (floatOf value)))
+    (cond (eqb sort 1) (Of (Acceleration (ofBits binary32 value)))
+    (cond (eqb sort 2) (Of (TargetSpeed (ofBits binary32 value)))
     (cond (eqb sort 3) (Of Hold) Unknown)))
 
 -- whether the numbers make no wish

@@ -1,8 +1,9 @@
 // Wishes made of a host's numbers.
 ghost use mathlib.Core.Path.{_≡_};
 ghost use mathlib.Core.Bool.{cond};
-ghost use Prim.Native.Nat.{_≤_};
+ghost use Prim.Native.Nat.{ℕ, _≤_};
 ghost use lib.ListN.{length, take};
+ghost use Rattle.wish.specs.Units.{unitsOf};
 ghost use Rattle.lane.specs.Layout.{recordsIn, stateOf};
 ghost use Rattle.lane.specs.Wishes.{wishedUnits, anyOutside};
 ghost use Rattle.lane.specs.Calls.{ifAccepted, readyNo};
@@ -32,16 +33,17 @@ fn make_units(value: u32) -> Made
 }
 
 fn make(sort: u8, value: u32) -> Made
-    ensures { λ r. ⌜ r ≡ wishMade sort value ⌝ }
+    ensures unknown { λ r. ⌜ isUnknown r ≡ isUnknown (wishMade sort value) ⌝ }
+    ensures units { λ r. ⌜ ((v : ℕ) → unitsOf (madeWish r) v ≡ unitsOf (madeWish (wishMade sort value)) v) ⌝ }
 {
     if sort == 0 {
         return make_units(value);
     }
     if sort == 1 {
-        return Made::Of(Wish::Acceleration(wish::float_of(value)));
+        return Made::Of(wish::acceleration_of(value));
     }
     if sort == 2 {
-        return Made::Of(Wish::TargetSpeed(wish::float_of(value)));
+        return Made::Of(wish::target_of(value));
     }
     if sort == 3 {
         return Made::Of(Wish::Hold);

@@ -5,7 +5,7 @@ mod Ints
 mod Values
 mod Products
 mod Bits
-pub mod Patterns
+mod Patterns
 mod Quotients
 mod Trimming
 pub mod Laws

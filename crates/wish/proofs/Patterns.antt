@@ -1,23 +1,21 @@
--- The float that stands for bits has the units of the float of these bits, in both sorts of wish. Assumes nothing.
+-- The least normal number asks for what each subnormal one of its sign does, in both sorts of wish. Assumes nothing.
 use mathlib.Core.Path.{_≡_, refl, sym, ap, ap₂, _∙_, subst}
 use mathlib.Core.Bool.{Bool, true, false, not, _&&_, _||_, cond}
 use Prim.Native.Nat.{ℕ, _-_, _*_, _/_, _%_, _^_, _≤_, _<_}
 use native.Mathlib.Nat.{lt-of-lt-of-le, mul-pos}
 use native.Mathlib.Omega.{arith}
 use borrow.Author.Tests.{le-leb, ne-eqb}
-use lib.Dec.{leb, ltb, eqb, ltb→lt, lit≤, lit<}
-use lib.IntN.{ℤ, pos, _-ℤ_}
+use lib.Dec.{leb, eqb, lit≤, lit<}
+use lib.IntN.{ℤ, pos, negsuc, _-ℤ_}
 use lib.Ieee.{Float, nan, inf, fin, binary32, ofBits, ofFields, up, down}
-use lib.Ieee.Fits.{and-l, and-r, down-pos}
+use lib.Ieee.Fits.{down-pos}
 use lib.Ieee.Exact.{HasValue}
 use Rattle.wish.specs.Rounding.{signed, roundedSize, roundedTimes}
 use Rattle.wish.specs.Units.{liesWithin, unitsWithin, accelerationUnits, targetUnits, unitsOf}
-use Rattle.wish.specs.Patterns.{isSubnormal, leastNormal, floatOf}
-use Rattle.wish.specs.declared.Converted.{Converted}
 use Rattle.wish.specs.declared.Converted.the-variants.{Units, Outside}
 use Rattle.wish.specs.declared.Wish.the-variants.{Acceleration, TargetSpeed}
 use Rattle.wish.proofs.Rounding.{rounded-tiny}
-use Rattle.wish.proofs.Values.{holds, at-most-of-value, in-range, within-size-from-0, rounded-value}
+use Rattle.wish.proofs.Values.{at-most-of-value, in-range, within-size-from-0, rounded-value}
 use Rattle.wish.proofs.Bits.{ofBits-is, low-field}
 
 -- ±a / c, not 0 and below 1/512 in size
@@ -67,15 +65,10 @@ module _ {x : Float} {s : Bool} {a c : ℕ} (t : Tiny x s a c) where
       let g = t .some in
       ap₂ (λ (u : Bool) (z : ℤ). cond u (Units (z -ℤ pos v)) Outside) (not-from-0 x s a c t) (rounds 128 (omega arith) (omega arith))
 
--- the two floats, where they differ
-module _ (bits : ℕ) (h : isSubnormal bits ≡ true) where
+-- a pattern of a subnormal number: the exponent's field is 0, and not all of the rest
+module _ (bits : ℕ) (some : 0 < bits % 0x8000_0000) (small : bits % 0x8000_0000 < 0x80_0000) where
   given : Tiny (ofBits binary32 bits) (leb 0x8000_0000 bits) (bits % 0x80_0000) (2 ^ 149)
-  unfolding isSubnormal
   given =
-      let low = ltb 0 (bits % 0x8000_0000) in
-      let high = ltb (bits % 0x8000_0000) 0x80_0000 in
-      let some = ltb→lt 0 (bits % 0x8000_0000) (and-l low high (holds h)) in
-      let small = ltb→lt (bits % 0x8000_0000) 0x80_0000 (and-r low high (holds h)) in
       let field : bits % 0x8000_0000 / 0x80_0000 ≡ 0 = omega arith in
       record {
         value = subst (λ (y : Float). HasValue y (leb 0x8000_0000 bits) (bits % 0x80_0000) (2 ^ 149))
@@ -85,27 +78,14 @@ module _ (bits : ℕ) (h : isSubnormal bits ≡ true) where
         few = let f : bits % 0x80_0000 * 512 < 2 ^ 32 = omega arith in lt-of-lt-of-le f (lit≤ tt);
       }
 
-  stands : Tiny (leastNormal (leb 0x8000_0000 bits)) (leb 0x8000_0000 bits) (2 ^ 23) (2 ^ 149)
-  unfolding leastNormal
+  -- ±2 ^ −126, the least number of the sign that is none
+  stands : Tiny (fin (leb 0x8000_0000 bits) 1 (negsuc 125)) (leb 0x8000_0000 bits) (2 ^ 23) (2 ^ 149)
   stands = record { value = (refl, refl); some = lit< tt; few = lit< tt }
 
--- so it makes no difference which of them a wish is made of
-module _ (bits v : ℕ) where
-  alike : (f : Float → Converted) → (isSubnormal bits ≡ true → f (leastNormal (leb 0x8000_0000 bits)) ≡ f (ofBits binary32 bits))
-      → f (floatOf bits) ≡ f (ofBits binary32 bits)
-  unfolding floatOf
-  alike f same = go (isSubnormal bits) refl
-    where
-      go : (t : Bool) → isSubnormal bits ≡ t → f (cond t (leastNormal (leb 0x8000_0000 bits)) (ofBits binary32 bits)) ≡ f (ofBits binary32 bits)
-      go true e = same e
-      go false e = refl
-
-  -- "an acceleration in m/s² as a 32-bit float"
-  pub acceleration-of-bits : unitsOf (Acceleration (floatOf bits)) v ≡ unitsOf (Acceleration (ofBits binary32 bits)) v
+  pub least-acceleration : (v : ℕ) → unitsOf (Acceleration (fin (leb 0x8000_0000 bits) 1 (negsuc 125))) v ≡ unitsOf (Acceleration (ofBits binary32 bits)) v
   unfolding unitsOf
-  acceleration-of-bits = alike accelerationUnits (λ h. tiny-acceleration (stands bits h) ∙ sym (tiny-acceleration (given bits h)))
+  least-acceleration v = tiny-acceleration stands ∙ sym (tiny-acceleration given)
 
-  -- "a target speed in m/s as a 32-bit float"
-  pub target-of-bits : unitsOf (TargetSpeed (floatOf bits)) v ≡ unitsOf (TargetSpeed (ofBits binary32 bits)) v
+  pub least-target : (v : ℕ) → unitsOf (TargetSpeed (fin (leb 0x8000_0000 bits) 1 (negsuc 125))) v ≡ unitsOf (TargetSpeed (ofBits binary32 bits)) v
   unfolding unitsOf
-  target-of-bits = alike (λ x. targetUnits x v) (λ h. tiny-target (stands bits h) v ∙ sym (tiny-target (given bits h) v))
+  least-target v = tiny-target stands v ∙ sym (tiny-target given v)

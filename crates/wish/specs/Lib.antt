@@ -1,7 +1,6 @@
 -- What document 01 says of wishes and readings, as definitions.
 pub mod Rounding
 pub mod Units
-pub mod Patterns
 pub mod Trimming
 pub mod Reading
 pub mod Cases

@@ -1,13 +1,13 @@
 // Wishes as units, their trimming, and what is read of a carrier, in metres.
 ghost use mathlib.Core.Path.{_≡_};
 ghost use mathlib.Core.Bool.{true, false, cond};
-ghost use Prim.Native.Nat.{_+_, _^_, _≤_, _<_, min};
-ghost use lib.IntN.{pos};
-ghost use lib.Ieee.{fin, lt};
+ghost use Prim.Native.Nat.{ℕ, _+_, _^_, _≤_, _<_, min};
+ghost use lib.IntN.{pos, negsuc};
+ghost use lib.Ieee.{fin, lt, binary32, ofBits};
 ghost use lib.Ieee.Exact.{HasValue};
 ghost use Rattle.wish.specs.Rounding.{roundedSize, roundedTimes};
 ghost use Rattle.wish.specs.Units.{liesWithin, accelerationUnits, targetUnits, unitsOf, sizeIn};
-ghost use Rattle.wish.specs.Patterns.{leastNormal, floatOf};
+ghost use Rattle.wish.specs.declared.Wish.the-variants.{Acceleration, TargetSpeed};
 ghost use Rattle.wish.specs.Trimming.{smallerOf, trimmedTo};
 ghost use Rattle.wish.specs.Reading.{readingOf};
 
@@ -34,7 +34,7 @@ pub struct Reading {
 
 // ±2 ^ −126, the least normal number in size.
 fn least_normal(minus: bool) -> f32
-    ensures { λ r. ⌜ r ≡ leastNormal minus ⌝ }
+    ensures { λ r. ⌜ r ≡ fin minus 1 (negsuc 125) ⌝ }
 {
     if minus {
         return f32::from_bits(0x8080_0000);
@@ -42,10 +42,11 @@ fn least_normal(minus: bool) -> f32
     f32::from_bits(0x0080_0000)
 }
 
-// The float that stands for bits. `f32::from_bits` leaves a NaN's patterns open, so they are told apart first; and no subnormal number is made, since
-// a host's mode of the processor may flush it or trap on it, in any comparison or product.
-pub fn float_of(bits: u32) -> f32
-    ensures { λ r. ⌜ r ≡ floatOf bits ⌝ }
+// A float that asks for what the float of these bits does. `f32::from_bits` leaves a NaN's patterns open, so they are told apart first; and no
+// subnormal number is made, since a host's mode of the processor may flush it or trap on it, in any comparison or product.
+fn float_of(bits: u32) -> f32
+    ensures acceleration { λ r. ⌜ ((v : ℕ) → unitsOf (Acceleration r) v ≡ unitsOf (Acceleration (ofBits binary32 bits)) v) ⌝ }
+    ensures target { λ r. ⌜ ((v : ℕ) → unitsOf (TargetSpeed r) v ≡ unitsOf (TargetSpeed (ofBits binary32 bits)) v) ⌝ }
 {
     let size = bits % 0x8000_0000;
     if size > 0x7F80_0000 {
@@ -55,6 +56,20 @@ pub fn float_of(bits: u32) -> f32
         return least_normal(bits >= 0x8000_0000);
     }
     f32::from_bits(bits)
+}
+
+// The wish of a float's bits, as an acceleration. Which float it holds is open: at every speed the units are those of the bits' own.
+pub fn acceleration_of(bits: u32) -> Wish
+    ensures { λ r. ⌜ ((v : ℕ) → unitsOf r v ≡ unitsOf (Acceleration (ofBits binary32 bits)) v) ⌝ }
+{
+    Wish::Acceleration(float_of(bits))
+}
+
+// The same as a target speed.
+pub fn target_of(bits: u32) -> Wish
+    ensures { λ r. ⌜ ((v : ℕ) → unitsOf r v ≡ unitsOf (TargetSpeed (ofBits binary32 bits)) v) ⌝ }
+{
+    Wish::TargetSpeed(float_of(bits))
 }
 
 // A float as a fraction: digits / 2 ^ shift, negative where `negative` is true.

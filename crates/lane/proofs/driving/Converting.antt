@@ -31,24 +31,24 @@ converting-start count cs ws zs h kc kw kz =
     record { most = h; carriers = kc; wishes = kw; long = kz; place = omega arith; inside = refl; units = refl }
 
 module _ {count : ℕ} {cs : List Carrier} {ws : List Wish} {zs : List ℤ} {i : ℕ} (m : Converting count cs ws zs i) where
-  -- the next wish w: whether it is outside its range, r, and its units
-  module _ (y w : Wish) (e : w ≡ getD ws i y) (r : Bool) (tested : r ≡ isOutside (unitsOf w (getD cs i none .speed))) (h : i < count) where
+  -- the next wish, or a w with the same units: whether it is outside its range, r, and its units
+  module _ (y w : Wish) (e : (v : ℕ) → unitsOf w v ≡ unitsOf (getD ws i y) v) (r : Bool) (tested : r ≡ isOutside (unitsOf w (getD cs i none .speed))) (h : i < count) where
     abbrev z : ℤ
     z = unitsIn (unitsOf w (getD cs i none .speed))
 
     carrier-next : slice i count cs ≡ getD cs i none ∷ slice (i + 1) count cs
     carrier-next = slice-next none cs i count h (omega (arith, m .most, m .carriers))
 
-    wish-next : slice i count ws ≡ w ∷ slice (i + 1) count ws
-    wish-next = rw e (slice-next y ws i count h (m .wishes))
+    wish-next : slice i count ws ≡ getD ws i y ∷ slice (i + 1) count ws
+    wish-next = slice-next y ws i count h (m .wishes)
 
     outside-next : anyOutside (slice i count cs) (slice i count ws) ≡ r || anyOutside (slice (i + 1) count cs) (slice (i + 1) count ws)
     unfolding anyOutside
-    outside-next = rw (carrier-next, wish-next, tested) refl
+    outside-next = rw (carrier-next, wish-next, tested, e (getD cs i none .speed)) refl
 
     units-next : wishedUnits (slice i count cs) (slice i count ws) ≡ z ∷ wishedUnits (slice (i + 1) count cs) (slice (i + 1) count ws)
     unfolding wishedUnits
-    units-next = rw (carrier-next, wish-next) refl
+    units-next = rw (carrier-next, wish-next, e (getD cs i none .speed)) refl
 
     pub outside-here : r ≡ true → true ≡ anyOutside (take count cs) (take count ws)
     outside-here o = sym (m .inside ∙ outside-next ∙ rw o refl)

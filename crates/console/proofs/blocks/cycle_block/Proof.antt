@@ -12,7 +12,7 @@ use Rattle.lane.specs.Call.{cycle-call}
 use Rattle.console.specs.Blocks.{Parsed, parsed, afterLine, wants, sixtyFour, cycleLines}
 use Rattle.console.proofs.Printing.{prints-length}
 use Rattle.console.proofs.Lines.{Reached, first-read, field-read, field-most, all-read, refuses-8}
-use Rattle.console.proofs.Wishing.{Asking, asking-start, asking-missing, asking-next, asking-end}
+use Rattle.console.proofs.Wishing.{Asking, asking-start, asking-missing, asking-next, array-alike, asking-end, run-alike}
 use Rattle.console.proofs.blocks.cycle_block.Statement.{statement}
 use Rattle.console.proofs.blocks.cycle_block.Tie as tie
 
@@ -123,7 +123,8 @@ returns-3 c =
     let run = c .before .before in
     let done = run .before .before .before in
     let at = done .before in
-    all-read (asking-end (at .loop .inv .1) (done .loop-test .left)) (rw (at .loop .inv .0) at (run .run-cycle .ensures))
+    let asked = at .loop .inv .1 in
+    all-read (asking-end asked (done .loop-test .left)) (run-alike _ _ _ _ _ _ _ (array-alike asked) (rw (at .loop .inv .0) at (run .run-cycle .ensures)))
 
 pub cycle-block-spec : {M : Type 1} → statement M
 cycle-block-spec =

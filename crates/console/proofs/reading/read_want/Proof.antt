@@ -1,7 +1,7 @@
 -- `console::reading::read_want` meets its contract: the wish is what the line's value asks for, and the value tells where the line ends.
 use borrow.Author.Needs.{needs}
-use mathlib.Core.Path.{_≡_, refl, sym, ap, _∙_}
-use mathlib.Core.Bool.{cond}
+use mathlib.Core.Path.{_≡_, refl, sym, ap, _∙_, subst}
+use mathlib.Core.Bool.{Bool, cond}
 use mathlib.Core.List.{List}
 use Prim.Native.Nat.{ℕ, suc, _+_, _≤_}
 use native.Mathlib.Omega.{arith}
@@ -11,22 +11,24 @@ use Rattle.text.specs.Fields.{lineLength}
 use Rattle.text.proofs.ReadLaws.{value-after}
 use Rattle.console.specs.declared.reading.Want.{Want}
 use Rattle.console.specs.declared.reading.Want.the-variants.{Wanted, Nothing}
-use Rattle.console.specs.Blocks.{wishWanted, wantIn, isWish, wishOf, WantRead}
+use Rattle.console.specs.Blocks.{wishWanted, wantIn, isWish, wishOf, WantedAs, WantRead}
 use Rattle.console.proofs.Wishing.{wish-value}
 use Rattle.console.proofs.reading.read_want.Statement.{statement}
 use Rattle.console.proofs.reading.read_want.Tie as tie
 
--- where the line holds w, so does the answer
-answer : (input : List ℕ) (at : ℕ) {next : ℕ} (w : Want) → wantIn (drop at input) ≡ w → next ≡ cond (isWish w) (at + suc (lineLength (drop at input))) at
+-- where w asks for what the line does, so does the answer
+answer : (input : List ℕ) (at : ℕ) {next : ℕ} (w : Want) → WantedAs (wantIn (drop at input)) w → next ≡ cond (isWish w) (at + suc (lineLength (drop at input))) at
     → WantRead input at (record { ok = isWish w; wish = wishOf w; next = next })
-answer input at w e f = record { ok = ap isWish (sym e); wish = ap wishOf (sym e); next = f ∙ rw e refl }
+answer input at w a f = record { ok = a .ok; units = a .units; next = f ∙ ap (λ (t : Bool). cond t (at + suc (lineLength (drop at input))) at) (a .ok) }
 
 abbrev start : tie.After-wish-wanted → tie.Start
 start c = c .before .before .before .before
 
-holds : (c : tie.After-wish-wanted) {w : Want} → c .wish-wanted .result ≡ w → wantIn (drop (start c .args .at) (start c .args .input .now)) ≡ w
+holds : (c : tie.After-wish-wanted) {w : Want} → c .wish-wanted .result ≡ w → WantedAs (wantIn (drop (start c .args .at) (start c .args .input .now))) w
 unfolding wantIn
-holds c e = ap wishWanted (sym (c .before .line-value .ensures)) ∙ sym (c .wish-wanted .ensures) ∙ e
+holds c {w} e =
+    subst (λ (x : List ℕ). WantedAs (wishWanted x) w) (c .before .line-value .ensures)
+    (subst (WantedAs (wishWanted (c .before .line-value .result .now))) e (c .wish-wanted .ensures))
 
 -- the place after a line with a wish, which is within the input
 ends : (c : tie.After-known-told) → let a = start (c .before .before .before) .args in let value = c .before .before .before .before .line-value .result .now in
@@ -36,7 +38,7 @@ ends c =
     let found = c .before .before .before in
     let a = start found .args in
     value-after (ascii "want=") (a .input .now) (a .at) (found .before .line-value .ensures)
-    (wish-value _ (sym (found .wish-wanted .ensures) ∙ c .before .wish .given .1))
+    (wish-value _ (sym (found .wish-wanted .ensures .ok) ∙ ap isWish (c .before .wish .given .1)))
 
 slice-aggregate-line-value : tie.Need-slice-aggregate-line-value
 slice-aggregate-line-value c = search needs

@@ -1,7 +1,7 @@
 -- `console::reading::wish_wanted` meets its contract: the sorts of wishes are tried in the order of the definition.
 use borrow.Author.Needs.{needs}
 use borrow.Rule.Slice.PartAt.{part-to-end}
-use mathlib.Core.Path.{_≡_, refl, sym, ap, _∙_}
+use mathlib.Core.Path.{_≡_, refl, sym, ap, _∙_, subst}
 use mathlib.Core.Bool.{false}
 use mathlib.Core.List.{List}
 use Prim.Native.Nat.{ℕ, _-_}
@@ -10,7 +10,8 @@ use Rattle.text.specs.Ascii.{ascii}
 use Rattle.text.specs.Fields.{startsWith, isWord, signedIn, bitsIn}
 use Rattle.text.proofs.ReadLaws.{starts-too-short}
 use Rattle.wish.specs.declared.Wish.the-variants.{Acceleration, TargetSpeed}
-use Rattle.console.specs.Blocks.{unitsWanted, floatWanted, wishWanted}
+use Rattle.console.specs.Blocks.{unitsWanted, floatWanted, wishWanted, WantedAs}
+use Rattle.console.proofs.Wishing.{wanted-as-is}
 use Rattle.console.proofs.reading.wish_wanted.Statement.{statement}
 use Rattle.console.proofs.reading.wish_wanted.Tie as tie
 
@@ -44,14 +45,14 @@ is-word-requires c κs = search needs
 
 returns : tie.Need-returns
 unfolding wishWanted
-returns c = rw (sym (c .before .is-word .ensures) ∙ c .if1 .taken) refl
+returns c = rw (sym (c .before .is-word .ensures) ∙ c .if1 .taken) (wanted-as-is refl)
 
 returns-2 : tie.Need-returns-2
 unfolding wishWanted
 returns-2 c =
     let v = value (c .before .before) in
     rw (no-hold (c .before), starts-too-short (ascii "units:") v (c .if2 .taken), starts-too-short (ascii "accel:") v (c .if2 .taken), starts-too-short (ascii "speed:") v (c .if2 .taken))
-    refl
+    (wanted-as-is refl)
 
 sub-digits : tie.Need-sub-digits
 sub-digits c = search needs
@@ -77,7 +78,7 @@ returns-3 c =
     let then = c .before in
     let d = then .before .before .before in
     rw (no-hold (first d), sym (then .before .starts-with .ensures) ∙ then .if3 .taken)
-    (c .units-wanted .ensures ∙ ap (λ (x : List ℕ). unitsWanted (signedIn x)) (digits d))
+    (wanted-as-is (c .units-wanted .ensures ∙ ap (λ (x : List ℕ). unitsWanted (signedIn x)) (digits d)))
 
 slice-aggregate-starts-with-2 : tie.Need-slice-aggregate-starts-with-2
 slice-aggregate-starts-with-2 c = search needs
@@ -95,7 +96,7 @@ returns-4 c =
     let u = then .before .before .before in
     let d = units-on u in
     rw (no-hold (first d), no-units u, sym (then .before .starts-with2 .ensures) ∙ then .if4 .taken)
-    (c .float-wanted .ensures ∙ ap (λ (x : List ℕ). floatWanted (λ y. Acceleration y) (bitsIn x)) (digits d))
+    (subst (λ (x : List ℕ). WantedAs (floatWanted (λ y. Acceleration y) (bitsIn x)) (c .float-wanted .result)) (digits d) (c .float-wanted .ensures))
 
 slice-aggregate-starts-with-3 : tie.Need-slice-aggregate-starts-with-3
 slice-aggregate-starts-with-3 c = search needs
@@ -114,14 +115,14 @@ returns-5 c =
     let u = s .before .before .before in
     let d = units-on u in
     rw (no-hold (first d), no-units u, no-accel s, sym (then .before .starts-with3 .ensures) ∙ then .if5 .taken)
-    (c .float-wanted2 .ensures ∙ ap (λ (x : List ℕ). floatWanted (λ y. TargetSpeed y) (bitsIn x)) (digits d))
+    (subst (λ (x : List ℕ). WantedAs (floatWanted (λ y. TargetSpeed y) (bitsIn x)) (c .float-wanted2 .result)) (digits d) (c .float-wanted2 .ensures))
 
 returns-6 : tie.Need-returns-6
 unfolding wishWanted
 returns-6 c =
     let s = c .before .before .before in
     let u = s .before .before .before in
-    rw (no-hold (first (units-on u)), no-units u, no-accel s, sym (c .before .starts-with3 .ensures) ∙ c .if5 .left) refl
+    rw (no-hold (first (units-on u)), no-units u, no-accel s, sym (c .before .starts-with3 .ensures) ∙ c .if5 .left) (wanted-as-is refl)
 
 pub wish-wanted-spec : {M : Type 1} → statement M
 wish-wanted-spec =

@@ -1,6 +1,6 @@
 -- `lane::given::any_unknown` meets its contract. The invariant: whether a wish is unknown goes by those that are still to be looked at.
 use borrow.Author.Needs.{needs}
-use mathlib.Core.Path.{_≡_, sym, ap, _∙_}
+use mathlib.Core.Path.{_≡_, sym, _∙_}
 use mathlib.Core.Bool.{Bool}
 use Prim.Native.Nat.{_-_, _≤_}
 use native.Mathlib.Omega.{arith}
@@ -28,7 +28,7 @@ module _ (u : tie.After-is-unknown Inv-loop μ-loop) where
 
   -- whether the wish at the loop's place is unknown
   told : (t : Bool) → u .is-unknown .result ≡ t → isUnknown (wishMade (getD (s .args .sorts .now) (at .loop .i) 0) (getD (s .args .values .now) (at .loop .i) 0)) ≡ t
-  told t e = sym (u .is-unknown .ensures ∙ ap isUnknown (u .before .make .ensures)) ∙ e
+  told t e = sym (u .is-unknown .ensures ∙ u .before .make .ensures .0) ∙ e
 
 loop-holds : tie.Need-loop-holds Inv-loop μ-loop
 loop-holds c = search needs

@@ -6,10 +6,12 @@ use Prim.Native.Nat.{ℕ, _-_, _≤_}
 use native.Mathlib.Omega.{arith}
 use lib.ListN.{length, getD, take}
 use lib.Seq.{slice}
+use Rattle.wish.specs.Units.{unitsOf}
+use Rattle.wish.specs.declared.Wish.{Wish}
 use Rattle.wish.specs.declared.Wish.the-variants.{Hold}
 use Rattle.lane.specs.Layout.{recordsIn}
 use Rattle.lane.specs.Wishes.{anyOutside}
-use Rattle.lane.specs.Given.{wishMade, isUnknown, madeWish, wishesMade, anyUnknown, wishesNo, wishesGiven}
+use Rattle.lane.specs.Given.{wishMade, isUnknown, wishesMade, anyUnknown, wishesNo, wishesGiven}
 use Rattle.lane.proofs.driving.Ready.{ready-few, ready-narrow}
 use Rattle.lane.proofs.driving.Converting.{Converting, converting-start, outside-here, converted-here, none-outside, all-converted}
 use Rattle.lane.proofs.driving.Making.{few-sorts, few-values, by-sorts, unknown-here, known-here, all-known, unfitNo, unmade-first, unfit-is, none-unfit, made-take, made-at, made-long}
@@ -42,17 +44,17 @@ module _ (k : tie.After-is-unknown Inv-loop μ-loop) where
   s = at .before .before .before .before .before .before .before .before
 
   told : (t : Bool) → k .is-unknown .result ≡ t → isUnknown (wishMade (getD (s .args .sorts .now) (at .loop .i) 0) (getD (s .args .values .now) (at .loop .i) 0)) ≡ t
-  told t e = sym (k .is-unknown .ensures ∙ ap isUnknown (k .before .make .ensures)) ∙ e
+  told t e = sym (k .is-unknown .ensures ∙ k .before .make .ensures .0) ∙ e
 
 -- what `convert_one` has given there
 module _ (u : tie.After-convert-one Inv-loop μ-loop) where
   abbrev k : tie.After-is-unknown Inv-loop μ-loop
   k = u .before .before .before .before
 
-  wish-is : u .before .before .wish-of .result ≡ getD (wishesMade (s k .args .sorts .now) (s k .args .values .now)) (at k .loop .i) Hold
-  wish-is =
-      u .before .before .wish-of .ensures ∙ ap madeWish (k .before .make .ensures)
-      ∙ made-at (s k .args .sorts .now) (s k .args .values .now) (at k .loop .i) (omega arith) (omega arith)
+  wish-is : (v : ℕ) → unitsOf (u .before .before .wish-of .result) v ≡ unitsOf (getD (wishesMade (s k .args .sorts .now) (s k .args .values .now)) (at k .loop .i) Hold) v
+  wish-is v =
+      ap (λ (w : Wish). unitsOf w v) (u .before .before .wish-of .ensures) ∙ k .before .make .ensures .1 v
+      ∙ ap (λ (w : Wish). unitsOf w v) (made-at (s k .args .sorts .now) (s k .args .values .now) (at k .loop .i) (omega arith) (omega arith))
 
 -- a refusal by `unfit`, where one cannot be made or is outside its range
 module _ (k : tie.After-is-unknown Inv-loop μ-loop) where

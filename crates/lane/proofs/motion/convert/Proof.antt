@@ -57,7 +57,7 @@ convert-one-requires c κs =
 returns : tie.Need-returns Inv-loop μ-loop
 returns c =
     let u = c .before in
-    (outside-here (at u .loop .inv) (Units (pos 0)) (w u) refl _ (u .convert-one .ensures .0) (omega arith) (c .if1 .taken), λ e. absurd (true≢false e))
+    (outside-here (at u .loop .inv) (Units (pos 0)) (w u) (λ v. refl) _ (u .convert-one .ensures .0) (omega arith) (c .if1 .taken), λ e. absurd (true≢false e))
 
 add-i : tie.Need-add-i Inv-loop μ-loop
 add-i c = search needs
@@ -68,7 +68,7 @@ loop-less c = search needs
 loop-again : tie.Need-loop-again Inv-loop μ-loop
 loop-again c =
     let u = c .before in
-    converted-here (at u .loop .inv) (Units (pos 0)) (w u) refl _ (u .convert-one .ensures .0) (omega arith) (c .if1 .left) _ (u .convert-one .ensures .1)
+    converted-here (at u .loop .inv) (Units (pos 0)) (w u) (λ v. refl) _ (u .convert-one .ensures .0) (omega arith) (c .if1 .left) _ (u .convert-one .ensures .1)
 
 returns-2 : tie.Need-returns-2 Inv-loop μ-loop
 returns-2 c = let m = c .before .loop .inv in (none-outside m (omega arith), λ e. all-converted m (omega arith))
