@@ -12,7 +12,7 @@ use Rattle.text.specs.Numbers.{decimal, hexadecimal}
 use Rattle.text.specs.Lines.{line}
 use Rattle.text.proofs.Laws.{length-line, length-hexadecimal}
 use Rattle.lane.specs.Layout.{Words, stateOf}
-use Rattle.lane.specs.Call.{Call, start-call, enter-call, leave-call, cycle-call, read-call, text-call, Answer, callNo, callAnswer}
+use Rattle.lane.specs.Call.{Call, start-call, load-call, enter-call, leave-call, cycle-call, read-call, text-call, Answer, callNo, callAnswer}
 use Rattle.lane.proofs.Laws.{text-answers, text-short}
 use Rattle.lane.proofs.CallLaws.{answer-number, two-digits}
 use Rattle.lane.proofs.Answerable.{place-small, gone-small}
@@ -26,6 +26,7 @@ refusal-fits n h = short-line (ascii "no=") n (omega arith) (omega arith)
 
 accepted-fits : (x : Call) (l : Words) → callNo x (stateOf l) ≡ 0 → length (acceptedText x (callAnswer x (stateOf l))) ≤ answerSpace
 accepted-fits (start-call road first) l z = omega arith
+accepted-fits (load-call text) l z = omega arith
 accepted-fits (enter-call c) l z =
     let place = callAnswer (enter-call c) (stateOf l) .place in
     omega (

@@ -20,6 +20,7 @@ use Rattle.lane.specs.State.{State}
 use Rattle.lane.specs.Layout.{Words, stateOf}
 use Rattle.lane.specs.Rules.{broken}
 use Rattle.lane.specs.Listing.{laneText}
+use Rattle.lane.proofs.CallLaws.{empty-state}
 use Rattle.lane.specs.Call.{callAnswer}
 use Rattle.lane.proofs.empty.Reads as empty-reads
 use Rattle.history.specs.History.{Event}
@@ -145,7 +146,7 @@ whole : (input out : List ℕ) {es : List Event} → Printed input es out → ou
 unfolding lengthAnswer outputOf
 whole input out (refused m h) = measured m ∙ rw (long-if m (tooLong (length input)) refl h) (sym (append-nil (refusal 10)))
 whole input out (accepted m h e r) =
-    rw (short-if m (tooLong (length input)) refl h) (from input (length input) r (le-refl (length input)) ∙ ap (λ (s : State). outputFrom (length input) s input) (ap stateOf (e .says)))
+    rw (short-if m (tooLong (length input)) refl h) (from input (length input) r (le-refl (length input)) ∙ ap (λ (s : State). outputFrom (length input) s input) (ap stateOf (e .says) ∙ empty-state))
 
 long-output : (t : List ℕ) → longestInput < length t → outputOf t ≡ refusal 10
 unfolding tooLong lengthAnswer outputOf

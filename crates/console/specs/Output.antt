@@ -8,16 +8,17 @@ use Rattle.text.specs.Ascii.{ascii}
 use Rattle.text.specs.Numbers.{decimal, hexadecimal}
 use Rattle.text.specs.Lines.{line}
 use Rattle.lane.specs.Calls.{ifAccepted}
-use Rattle.lane.specs.Call.{Call, start-call, enter-call, leave-call, cycle-call, read-call, text-call, Answer, meaning}
+use Rattle.lane.specs.Call.{Call, start-call, load-call, enter-call, leave-call, cycle-call, read-call, text-call, Answer, meaning}
 
 -- "A refusal prints `no=` and its number"
 unfoldable pub refusal : ℕ → List ℕ
 refusal n = line (ascii "no=") (decimal n)
 
 -- what an accepted call prints: "word in 16 upper-case hexadecimal digits; gone is the number gone"; "The lane text is what `show` prints
--- from `cars=` on"; no block is a read
+-- from `cars=` on"; no block is a load or a read
 abbrev pub acceptedText : Call → Answer → List ℕ
 acceptedText (start-call road first) a = ascii "ok=start\n"
+acceptedText (load-call text) a = []
 acceptedText (enter-call c) a = ascii "ok=enter\n" ++ line (ascii "place=") (decimal (a .place))
 acceptedText (leave-call number) a = ascii "ok=leave\n"
 acceptedText (cycle-call count ws) a =

@@ -6,6 +6,7 @@ use mathlib.Core.List.{List, [], _++_}
 use lib.Dec.{eqb, leb, ltb}
 use lib.ListN.{length, drop}
 use Rattle.text.specs.Lines.{written}
+use Rattle.lane.specs.Surface.{houseRows}
 use Rattle.lane.specs.State.{State}
 use Rattle.lane.specs.Layout.{Words, stateOf}
 use Rattle.lane.specs.Call.{callAnswer, callState}
@@ -68,10 +69,17 @@ pub record StepGives (before : Words) (x : Step) (at : ℕ) (buffer : List ℕ) 
 abbrev pub RunGives : (before : Words) (p : Parsed) (at : ℕ) (buffer : List ℕ) (r : Stepped) (after : Words) (left : List ℕ) → Type 0
 RunGives before p at buffer r after left = StepGives before (ran (stateOf before) p) at buffer r after left
 
--- the lane before the first block: it is empty and was never started
+-- the lane before the first block: it is empty and was never started; document 02, T-01: "the house rows serve until a table is loaded"
 abbrev pub neverStarted : State
 neverStarted =
-    record { started = false; road = record { surface = 0; end = 0; limit = 0 }; cycle = 0; count = 0; carriers = [] }
+    record {
+      started = false;
+      road = record { surface = 0; end = 0; limit = 0 };
+      tables = record { inForce = houseRows; next = houseRows };
+      cycle = 0;
+      count = 0;
+      carriers = [];
+    }
 
 -- the steps in turn; a step that does not stop takes at least one byte, so that there are at most as many as bytes
 unfoldable pub outputFrom : (steps : ℕ) → State → List ℕ → List ℕ

@@ -1,6 +1,6 @@
 -- The lane and the road book agree after each call, if they did before, and what is claimed of a cycle run holds.
 use mathlib.Core.Path.{_≡_, refl, sym, ap, _∙_, subst}
-use mathlib.Core.Bool.{Bool, true, false, not}
+use mathlib.Core.Bool.{Bool, true, false, not, true≢false}
 use mathlib.Core.List.{[]}
 use Prim.Native.Nat.{ℕ, _<_}
 use native.Mathlib.Omega.{arith}
@@ -9,8 +9,8 @@ use lib.Dec.{eqb}
 use lib.ListN.{length}
 use Rattle.lane.specs.State.{State}
 use Rattle.lane.specs.Layout.{Words, stateOf}
-use Rattle.lane.specs.Call.{Call, start-call, enter-call, leave-call, cycle-call, read-call, text-call, callNo, callAnswer, callState, Kept}
-use Rattle.lane.proofs.CallLaws.{refused-changes-nothing, answer-number, accepted-keeps, kept-in-order, start-accepted, enter-accepted, leave-accepted, read-accepted, text-accepted}
+use Rattle.lane.specs.Call.{Call, start-call, load-call, enter-call, leave-call, cycle-call, read-call, text-call, callNo, callAnswer, callState, Kept}
+use Rattle.lane.proofs.CallLaws.{refused-changes-nothing, answer-number, Outcome, kept as leaves-kept, never-started, accepted-leaves, kept-started, kept-in-order, start-accepted, load-accepted, enter-accepted, leave-accepted, read-accepted, text-accepted}
 use Rattle.lane.proofs.CycleLaws.{cycle-accepted, cycle-runs}
 use Rattle.history.specs.Book.{Book, begun, holding, taken, booked}
 use Rattle.history.specs.Claims.{InOrder, Kind, begins, runs, other, kindOf, CycleClaims}
@@ -42,7 +42,7 @@ in-order s b h = subst InOrder (h .same) (good-order (h .good))
 pub empty-agrees : (l : Words) → stateOf l .count ≡ 0 → Agree (stateOf l) (begun l)
 empty-agrees l e =
     let none : stateOf l .carriers ≡ [] = rw e refl in
-    record { same = ap (λ cs. record { road = stateOf l .road; carriers = cs }) none; good = empty e none }
+    record { same = ap (λ cs. record { road = stateOf l .road; tables = stateOf l .tables; carriers = cs }) none; good = empty e none }
 
 -- ---- a call, by the lane's laws
 
@@ -59,6 +59,7 @@ accepted-books : (x : Call) (s : State) → s .count ≡ length (s .carriers) �
     → (bookOf (callState x s) ≡ taken x (wordOf x s) (bookOf s)) × CycleClaims (kindOf x) false (wordOf x s) (bookOf s)
 unfolding taken
 accepted-books (start-call road first) s counted w z = (ap bookOf (start-accepted s road first z), tt)
+accepted-books (load-call text) s counted w z = (ap bookOf (load-accepted s text z), tt)
 accepted-books (enter-call c) s counted w z = (ap bookOf (enter-accepted s c z) ∙ ap (holding (bookOf s)) (sym (put-in c (s .carriers))), tt)
 accepted-books (leave-call number) s counted w z =
     (ap bookOf (leave-accepted s number z) ∙ ap (holding (bookOf s)) (sym (take-out number (s .carriers))), tt)
@@ -78,6 +79,12 @@ nothing-claimed (begins road first) word b = tt
 nothing-claimed (runs count wishes) word b = tt
 nothing-claimed (other x) word b = tt
 
+-- what an accepted call leaves of such a lane is such a one
+good-after : {s t : State} → Good s → Outcome s t → Good t
+good-after h (leaves-kept k) = kept k
+good-after (empty e f) (never-started u p q) = empty (p ∙ e) (q ∙ f)
+good-after {s} (kept k) (never-started u p q) = absurd (true≢false (sym (kept-started s k) ∙ u))
+
 settled : (x : Call) (s : State) → Wished (kindOf x) → Good s → Booked x s (bookOf s) (not (eqb (callNo x s) 0))
 settled x s w h = by-test (eqb (callNo x s) 0) refl
   where
@@ -85,7 +92,7 @@ settled x s w h = by-test (eqb (callNo x s) 0) refl
     by-test true e =
         let z = eqb-true (callNo x s) 0 e in
         let a = accepted-books x s (counted h) w z in
-        record { agree = record { same = a .0; good = kept (accepted-keeps x s (counted h) z) }; claims = a .1 }
+        record { agree = record { same = a .0; good = good-after h (accepted-leaves x s (counted h) z) }; claims = a .1 }
     by-test false e =
         record {
           agree = rw (refused-changes-nothing x s (eqb-false (callNo x s) 0 e)) (record { same = refl; good = h });

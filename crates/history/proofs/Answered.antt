@@ -18,8 +18,9 @@ use Rattle.lane.specs.declared.Road.{Road}
 use Rattle.lane.specs.State.{State}
 use Rattle.lane.specs.Layout.{Words, stateOf}
 use Rattle.lane.specs.Calls.{namedCarrier}
-use Rattle.lane.specs.Call.{Call, start-call, enter-call, leave-call, cycle-call, read-call, text-call, Answer, meaning, callAnswer, Gives, bare, entered, cycled, readOut, listed}
+use Rattle.lane.specs.Call.{Call, start-call, load-call, enter-call, leave-call, cycle-call, read-call, text-call, Answer, meaning, callAnswer, Gives, bare, entered, cycled, readOut, listed}
 use Rattle.lane.proofs.start.Reads as start-reads
+use Rattle.lane.proofs.load.Reads as load-reads
 use Rattle.lane.proofs.enter.Reads as enter-reads
 use Rattle.lane.proofs.leave.Reads as leave-reads
 use Rattle.lane.proofs.cycle.Reads as cycle-reads
@@ -27,7 +28,7 @@ use Rattle.lane.proofs.read.Reads as read-reads
 use Rattle.lane.proofs.lane_text.Reads as text-reads
 use Rattle.lane.proofs.Answerable.{gives-some, returned, read-exact}
 use Rattle.history.specs.Claims.{kindOf}
-use Rattle.history.specs.History.{Event, OfLane, Did, Ran, none-yet, then, Typed, AllTyped, HistoryOf}
+use Rattle.history.specs.History.{Event, OfLane, OfBoth, Did, Ran, none-yet, then, Typed, AllTyped, HistoryOf}
 
 -- ---- every list has a history
 
@@ -55,6 +56,13 @@ of-lane κ l s = record { κs = κ; lane = l; before = refl; says = s }
 pub lends : {l : Words} {Says : Lfts 1 → RefT Words → Type 0} → Says ([], tt) (lent l) → OfLane l Says
 lends {l} s = of-lane ([], tt) (lent l) s
 
+-- the same of a lane and bytes
+pub of-both : (κs : Lfts 2) (l : RefT Words) (out : RefT (List ℕ)) {Says : Lfts 2 → RefT Words → RefT (List ℕ) → Type 0} → Says κs l out → OfBoth (now l) (now out) Says
+of-both κs l out s = record { κs = κs; lane = l; out = out; before = refl; lent = refl; says = s }
+
+pub lends-both : {l : Words} {bytes : List ℕ} {Says : Lfts 2 → RefT Words → RefT (List ℕ) → Type 0} → Says ([], ([], tt)) (lent l) (lent bytes) → OfBoth l bytes Says
+lends-both {l} {bytes} s = of-both ([], ([], tt)) (lent l) (lent bytes) s
+
 -- the two doubles of a read
 abbrev pub Exact : (s : State) (number : ℕ) → Answer → Type 0
 Exact s number a =
@@ -63,6 +71,10 @@ Exact s number a =
 
 did : (x : Call) (l : Words) → Typed (kindOf x) → Did x l (callAnswer x (stateOf l)) (left x l)
 did (start-call road first) l t = let x = start-call road first in let r = returned x (stateOf l) in lends (r .0, r .1, gives-as x l (r .1))
+did (load-call text) l t =
+    let x = load-call text in
+    let r = returned x (stateOf l) in
+    lends-both (r .0, r .1, gives-as x l (r .1))
 did (enter-call c) l t = let x = enter-call c in let r = returned x (stateOf l) in lends (r .0, r .1, gives-as x l (r .1))
 did (leave-call number) l t = let x = leave-call number in let r = returned x (stateOf l) in lends (r .0, r .1, gives-as x l (r .1))
 did (cycle-call count wishes) l t =
@@ -73,10 +85,8 @@ did (read-call number) l t =
     (gives-some x l .2 refl, lends (r .0, r .1, (reads-as x l refl (r .1), subst (Exact (stateOf l) number) (r .1) (read-exact (stateOf l) number))))
 did (text-call buffer) l t =
     let x = text-call buffer in
-    let r = returned x (stateOf l) in (
-      gives-some x l .2 refl,
-      record { κs = ([], ([], tt)); lane = lent l; out = lent buffer; before = refl; lent = refl; says = (r .0, r .1, reads-as x l refl (r .1)) },
-    )
+    let r = returned x (stateOf l) in
+    (gives-some x l .2 refl, lends-both (r .0, r .1, reads-as x l refl (r .1)))
 
 pub every-list : (l : Words) (xs : List Call) → AllTyped xs → HistoryOf l xs
 every-list l [] t = record { events = []; last = l; calls = refl; ran = none-yet }
@@ -95,6 +105,7 @@ every-list l (x ∷ xs) t =
 -- step; and every step may go before every list
 pub each-contract : (κ : Lfts 1) (κs : Lfts 2) (l : RefT Words) (m : Words) (road : Road) (c : Carrier) (n : ℕ) (ws : List Wish) (out : RefT (List ℕ))
     → (start-reads.Asked κ (l, (road, (n, tt))) × ((no : ℕ) → start-reads.Learnt κ (l, (road, (n, tt))) no (at-last l m, (road, (n, tt))) → Did (start-call road n) (now l) (bare no []) m))
+    × (load-reads.Asked κs (l, (out, tt)) × ((no : ℕ) → load-reads.Learnt κs (l, (out, tt)) no (at-last l m, (out, tt)) → Did (load-call (now out)) (now l) (bare no []) m))
     × (enter-reads.Asked κ (l, (c, tt)) × ((r : Entered) → enter-reads.Learnt κ (l, (c, tt)) r (at-last l m, (c, tt)) → Did (enter-call c) (now l) (entered r) m))
     × (leave-reads.Asked κ (l, (n, tt)) × ((no : ℕ) → leave-reads.Learnt κ (l, (n, tt)) no (at-last l m, (n, tt)) → Did (leave-call n) (now l) (bare no []) m))
     × (cycle-reads.Asked κ (l, (n, (ws, tt))) × (length ws ≡ 64 → (r : Cycled) → cycle-reads.Learnt κ (l, (n, (ws, tt))) r (at-last l m, (n, (ws, tt))) → Did (cycle-call n ws) (now l) (cycled r) m))
@@ -103,10 +114,11 @@ pub each-contract : (κ : Lfts 1) (κs : Lfts 2) (l : RefT Words) (m : Words) (r
     × ((e : Event) (es : List Event) (d : Words) → Did (e .call) (now l) (e .answer) (e .left) → Ran (e .left) es d → Ran (now l) (e ∷ es) d)
 each-contract κ κs l m road c n ws out = (
   (tt, λ no s. of-lane κ l (no, refl, s)),
+  (tt, λ no s. of-both κs l out (no, refl, s)),
   (tt, λ r s. of-lane κ l (r, refl, s)),
   (tt, λ no s. of-lane κ l (no, refl, s)),
   (tt, λ e r s. (e, of-lane κ l (r, refl, s))),
   (tt, λ r s. (refl, of-lane κ l (r, refl, s))),
-  (tt, λ r bytes s. (refl, record { κs = κs; lane = l; out = out; before = refl; lent = refl; says = (r, refl, s) })),
+  (tt, λ r bytes s. (refl, of-both κs l out (r, refl, s))),
   λ e es d h r. then h r,
 )

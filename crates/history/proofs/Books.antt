@@ -71,7 +71,7 @@ module _ (b : Book) where
   -- what the carrier at a place drives goes by the word's bit of that place
   pub driven-at : (word : ℕ) (cs : List Carrier) (ws : List Wish) (i : ℕ) → i < length cs → length cs ≤ length ws
       → getD (drivenIn b word cs ws) i (pos 0)
-      ≡ cond (isReplaced word i) (braking (guaranteedRate (rowIn (b .road)) (getD cs i none)) (getD cs i none .speed)) (trimmedIn b (getD cs i none) (getD ws i Hold))
+      ≡ cond (isReplaced word i) (braking (guaranteedRate (rowIn (b .tables) (b .road)) (getD cs i none)) (getD cs i none .speed)) (trimmedIn b (getD cs i none) (getD ws i Hold))
   unfolding drivenIn
   driven-at word [] ws i p h = absurd (omega arith)
   driven-at word (c ∷ cs) [] i p h = absurd (omega arith)
@@ -87,10 +87,10 @@ module _ (b : Book) where
   driven-at-least word (c ∷ cs) [] i = resting (getD (c ∷ cs) i none .speed)
   driven-at-least word (c ∷ cs) (w ∷ ws) zero = by-bit (eqb (word % 2) 1)
     where
-      by-bit : (t : Bool) → negℤ (pos (c .speed)) ≤ℤ cond t (braking (guaranteedRate (rowIn (b .road)) c) (c .speed)) (trimmedIn b c w)
-      by-bit true = not-past-rest (guaranteedRate (rowIn (b .road)) c) (c .speed) _ (≤ℤ-refl _)
+      by-bit : (t : Bool) → negℤ (pos (c .speed)) ≤ℤ cond t (braking (guaranteedRate (rowIn (b .tables) (b .road)) c) (c .speed)) (trimmedIn b c w)
+      by-bit true = not-past-rest (guaranteedRate (rowIn (b .tables) (b .road)) c) (c .speed) _ (≤ℤ-refl _)
       by-bit false =
-          let r = rowIn (b .road) in
+          let r = rowIn (b .tables) (b .road) in
           not-past-rest (r .hardest) (c .speed) (trimmedIn b c w)
           (rw (braking-is (r .hardest) (c .speed)) (no-harder (unitsFrom (unitsOf w (c .speed))) (c .speed) (r .hardest) (r .most) (b .road .limit)))
   driven-at-least word (c ∷ cs) (w ∷ ws) (suc i) = driven-at-least (word / 2) cs ws i

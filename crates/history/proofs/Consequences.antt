@@ -133,7 +133,7 @@ module _ (after : Words) (count word : ℕ) (ws : List Wish) (b : Book)
 
   pub replaced-exactly : (i : ℕ) → 0 < i → i < length (b .carriers)
       → eqb (word / 2 ^ i % 2) 1
-      ≡ not (restsBehind (guaranteedRate (rowIn (b .road)) (carrierAt b i)) (rowIn (b .road) .hardest) (reachTo (carrierAt b (i - 1)) (carrierAt b i)) (carrierAt b i .speed) (trimmedIn b (carrierAt b i) (getD ws i Hold)) (carrierAt b (i - 1) .position) (carrierAt b (i - 1) .speed))
+      ≡ not (restsBehind (guaranteedRate (rowIn (b .tables) (b .road)) (carrierAt b i)) (rowIn (b .tables) (b .road) .hardest) (reachTo (carrierAt b (i - 1)) (carrierAt b i)) (carrierAt b i .speed) (trimmedIn b (carrierAt b i) (getD ws i Hold)) (carrierAt b (i - 1) .position) (carrierAt b (i - 1) .speed))
   unfolding restsLevelOrCrossed
   replaced-exactly i p q = c .cycle-run .1 i ∙ rw (lt-ltb 0 i p, lt-ltb i (length (b .carriers)) q) refl
 

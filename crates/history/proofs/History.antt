@@ -5,7 +5,7 @@ use native.Mathlib.Omega.{arith}
 use mathlib.Core.Path.{_≡_, sym, ap, subst}
 use mathlib.Core.List.{List}
 use Rattle.lane.specs.Layout.{Words, stateOf}
-use Rattle.lane.specs.Call.{Call, start-call, enter-call, leave-call, cycle-call, read-call, text-call, Answer, Gives}
+use Rattle.lane.specs.Call.{Call, start-call, load-call, enter-call, leave-call, cycle-call, read-call, text-call, Answer, Gives}
 use Rattle.history.specs.Book.{Book, begun, booked}
 use Rattle.history.specs.Claims.{kindOf, Claims}
 use Rattle.history.specs.History.{Event, seen, Did, Ran, none-yet, then, Wished, Chain, chain-end, chain-next, Throughout}
@@ -24,6 +24,8 @@ module _ {x : Call} where
 
 gives : (x : Call) (l : Words) (a : Answer) (m : Words) → Did x l a m → Gives x l a m × Wished (kindOf x)
 gives (start-call road first) l a m d = (given-of (d .before) (d .says .1) (d .says .2), tt)
+gives (load-call text) l a m d =
+    (subst (λ (t : List ℕ). Gives (load-call t) l a m) (d .lent) (given-of (d .before) (d .says .1) (d .says .2)), tt)
 gives (enter-call c) l a m d = (given-of (d .before) (d .says .1) (d .says .2), tt)
 gives (leave-call number) l a m d = (given-of (d .before) (d .says .1) (d .says .2), tt)
 gives (cycle-call count wishes) l a m d = (given-of (d .1 .before) (d .1 .says .1) (d .1 .says .2), λ h. omega (arith, d .0))
@@ -46,6 +48,7 @@ one-call e l b g w h =
       agree,
       record {
         carriers = ap (λ (c : Book). c .carriers) (agree .same);
+        tables = ap (λ (c : Book). c .tables) (agree .same);
         order = in-order _ _ agree;
         cycle-run = rw (g .answer) (s .claims);
       },

@@ -13,10 +13,11 @@ use Rattle.wish.specs.declared.Converted.the-variants.{Units, Outside}
 use Rattle.wish.specs.declared.Wish.{Wish}
 use Rattle.lane.specs.declared.Carrier.{Carrier}
 use Rattle.lane.specs.declared.Road.{Road}
-use Rattle.lane.specs.Surface.{rowIn}
+use Rattle.lane.specs.Surface.{Tables, rowIn}
 use Rattle.lane.specs.Safety.{guaranteedRate}
 use Rattle.lane.specs.Layout.{Words, stateOf}
-use Rattle.lane.specs.Call.{Call, start-call, enter-call, leave-call, cycle-call, read-call, text-call}
+use Rattle.lane.specs.Table.{tableIn, rowsLoaded}
+use Rattle.lane.specs.Call.{Call, start-call, load-call, enter-call, leave-call, cycle-call, read-call, text-call}
 
 -- "It is fed with each call with its arguments and, of the answers, only whether the call was refused and a cycle's word."
 pub record Seen : Type 0 where
@@ -24,18 +25,26 @@ pub record Seen : Type 0 where
   pub refused : Bool
   pub word : ℕ
 
--- "It holds surface, end, limit and the carriers front to back, each with number, position and speed."
+-- "It holds surface, end, limit and the carriers front to back, each with number, position and speed."; document 02, T-01: "The road book holds
+-- the rows in force and those for the next start too"
 pub record Book : Type 0 where
   pub road : Road
+  pub tables : Tables
   pub carriers : List Carrier
 
--- "It begins with no carrier and with the surface, end and limit of the empty lane first handed in."
+-- "It begins with no carrier and with the surface, end and limit of the empty lane first handed in."; T-01: with the rows "at first as the empty
+-- lane has them"
 abbrev pub begun : Words → Book
-begun l = record { road = stateOf l .road; carriers = [] }
+begun l = record { road = stateOf l .road; tables = stateOf l .tables; carriers = [] }
 
 -- the book with other carriers
 abbrev pub holding : Book → List Carrier → Book
-holding b cs = record { road = b .road; carriers = cs }
+holding b cs = record { road = b .road; tables = b .tables; carriers = cs }
+
+-- T-01: "a load replaces the latter", the rows for the next start
+abbrev pub loading : Book → (text : List ℕ) → Book
+loading b text =
+    record { road = b .road; tables = record { inForce = b .tables .inForce; next = rowsLoaded (tableIn text) }; carriers = b .carriers }
 
 -- "Enter: the carrier goes in as given, where the walk over the book ends."
 unfoldable pub putIn : Carrier → List Carrier → List Carrier
@@ -55,14 +64,14 @@ unitsFrom Outside = pos 0
 -- "wish i, made into units and trimmed with the book's figures"
 unfoldable pub trimmedIn : Book → Carrier → Wish → ℤ
 trimmedIn b c w =
-    trimmedTo (unitsFrom (unitsOf w (c .speed))) (c .speed) (rowIn (b .road) .hardest) (rowIn (b .road) .most) (b .road .limit)
+    trimmedTo (unitsFrom (unitsOf w (c .speed))) (c .speed) (rowIn (b .tables) (b .road) .hardest) (rowIn (b .tables) (b .road) .most) (b .road .limit)
 
 -- "or −(smaller of b and v) where bit i is set": the accelerations of the carriers, front to back; place 0 has the lowest bit
 unfoldable pub drivenIn : Book → (word : ℕ) → List Carrier → List Wish → List ℤ
 drivenIn b word [] ws = []
 drivenIn b word (c ∷ cs) [] = []
 drivenIn b word (c ∷ cs) (w ∷ ws) =
-    cond (eqb (word % 2) 1) (braking (guaranteedRate (rowIn (b .road)) c) (c .speed)) (trimmedIn b c w)
+    cond (eqb (word % 2) 1) (braking (guaranteedRate (rowIn (b .tables) (b .road)) c) (c .speed)) (trimmedIn b c w)
     ∷ drivenIn b (word / 2) cs ws
 
 -- "Cycle: carrier i drives"; "After the whole cycle, whoever is at or past the end comes out."
@@ -74,9 +83,10 @@ drivenOn end (c ∷ cs) (d ∷ ds) =
     cond (leb end position) (drivenOn end cs ds)
     (record { number = c .number; position = position; speed = speedAfter (c .speed) d } ∷ drivenOn end cs ds)
 
--- the step of a call that is not refused; "Start: it takes surface, end and limit and drops all carriers."
+-- the step of a call that is not refused; "Start: it takes surface, end and limit and drops all carriers."; T-01: "a start puts them in force"
 unfoldable pub taken : Call → (word : ℕ) → Book → Book
-taken (start-call road first) word b = record { road = road; carriers = [] }
+taken (start-call road first) word b = record { road = road; tables = record { inForce = b .tables .next; next = b .tables .next }; carriers = [] }
+taken (load-call text) word b = loading b text
 taken (enter-call c) word b = holding b (putIn c (b .carriers))
 taken (leave-call number) word b = holding b (takeOut number (b .carriers))
 taken (cycle-call count wishes) word b =

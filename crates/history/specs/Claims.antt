@@ -17,7 +17,7 @@ use Rattle.lane.specs.Surface.{rowIn}
 use Rattle.lane.specs.Layout.{Words, stateOf}
 use Rattle.lane.specs.Safety.{guaranteedRate, reachTo}
 use Rattle.lane.specs.Calls.{none}
-use Rattle.lane.specs.Call.{Call, start-call, enter-call, leave-call, cycle-call, read-call, text-call}
+use Rattle.lane.specs.Call.{Call, start-call, load-call, enter-call, leave-call, cycle-call, read-call, text-call}
 use Rattle.history.specs.Book.{Seen, Book, trimmedIn, drivenIn, booked}
 
 -- the carrier at a place: "Ahead means nearer the book's front; next ahead, the place just before."
@@ -47,7 +47,7 @@ restsLevelOrCrossed b ws i =
     let ahead = carrierAt b (i - 1) in
     ltb 0 i
     && (ltb i (length (b .carriers))
-    && not (restsBehind (guaranteedRate (rowIn (b .road)) c) (rowIn (b .road) .hardest) (reachTo ahead c) (c .speed) (trimmedIn b c (getD ws i Hold)) (ahead .position) (ahead .speed)))
+    && not (restsBehind (guaranteedRate (rowIn (b .tables) (b .road)) c) (rowIn (b .tables) (b .road) .hardest) (reachTo ahead c) (c .speed) (trimmedIn b c (getD ws i Hold)) (ahead .position) (ahead .speed)))
 
 -- "Replaced means that the wish's bit is set."
 abbrev pub isReplaced : (word i : ℕ) → Bool
@@ -65,6 +65,7 @@ pub data Kind : Call → Type 0 where
 
 abbrev pub kindOf : (x : Call) → Kind x
 kindOf (start-call road first) = begins road first
+kindOf (load-call text) = other (load-call text)
 kindOf (enter-call c) = other (enter-call c)
 kindOf (leave-call number) = other (leave-call number)
 kindOf (cycle-call count ws) = runs count ws
@@ -82,5 +83,7 @@ CycleClaims (other x) refused word b = Unit {0}
 pub record Claims (after : Words) (s : Seen) (b : Book) : Type 0 where
   -- "the lane's carriers are those of 01's road book after each call"
   pub carriers : stateOf after .carriers ≡ booked s b .carriers
+  -- and so are its rows, which document 02, T-01, adds to the book
+  pub tables : stateOf after .tables ≡ booked s b .tables
   pub order : InOrder (booked s b)
   pub cycle-run : CycleClaims (kindOf (s .call)) (s .refused) (s .word) b

@@ -12,8 +12,9 @@ use Rattle.lane.specs.declared.Entered.{Entered}
 use Rattle.lane.specs.declared.Listed.{Listed}
 use Rattle.lane.specs.declared.ReadOut.{ReadOut}
 use Rattle.lane.specs.Layout.{Words}
-use Rattle.lane.specs.Call.{Call, start-call, enter-call, leave-call, cycle-call, read-call, text-call, Answer, bare, entered, cycled, readOut, listed, Gives}
+use Rattle.lane.specs.Call.{Call, start-call, load-call, enter-call, leave-call, cycle-call, read-call, text-call, Answer, bare, entered, cycled, readOut, listed, Gives}
 use Rattle.lane.proofs.start.Reads as start-reads
+use Rattle.lane.proofs.load.Reads as load-reads
 use Rattle.lane.proofs.enter.Reads as enter-reads
 use Rattle.lane.proofs.leave.Reads as leave-reads
 use Rattle.lane.proofs.cycle.Reads as cycle-reads
@@ -45,19 +46,21 @@ pub record OfLane (l : Words) (Says : Lfts 1 → RefT Words → Type 0) : Type 0
   pub before : now lane ≡ l
   pub says : Says κs lane
 
--- one to a lane and one to a buffer
-pub record OfBoth (l : Words) (buffer : List ℕ) (Says : Lfts 2 → RefT Words → RefT (List ℕ) → Type 0) : Type 0 where
+-- one to a lane and one to bytes, a buffer or a text
+pub record OfBoth (l : Words) (bytes : List ℕ) (Says : Lfts 2 → RefT Words → RefT (List ℕ) → Type 0) : Type 0 where
   pub κs : Lfts 2
   pub lane : RefT Words
   pub out : RefT (List ℕ)
   pub before : now lane ≡ l
-  pub lent : now out ≡ buffer
+  pub lent : now out ≡ bytes
   pub says : Says κs lane out
 
 -- what the contract of the function called says of its arguments, its answer and the lane that it left; the wishes are an array of 64
 abbrev pub Did : Call → Words → Answer → Words → Type 0
 Did (start-call road first) l a m =
     OfLane l λ κs lane. (no : ℕ) × (a ≡ bare no []) × start-reads.Learnt κs (lane, (road, (first, tt))) no (at-last lane m, (road, (first, tt)))
+Did (load-call text) l a m =
+    OfBoth l text λ κs lane t. (no : ℕ) × (a ≡ bare no []) × load-reads.Learnt κs (lane, (t, tt)) no (at-last lane m, (t, tt))
 Did (enter-call c) l a m =
     OfLane l λ κs lane. (r : Entered) × (a ≡ entered r) × enter-reads.Learnt κs (lane, (c, tt)) r (at-last lane m, (c, tt))
 Did (leave-call number) l a m =

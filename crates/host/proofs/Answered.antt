@@ -17,19 +17,20 @@ use Rattle.lane.specs.declared.ReadOut.{ReadOut}
 use Rattle.lane.specs.declared.Road.{Road}
 use Rattle.lane.specs.Layout.{Words, stateOf, emptyWords}
 use Rattle.lane.specs.Calls.{ifAccepted, readyNo}
-use Rattle.lane.specs.Call.{Call, start-call, enter-call, leave-call, cycle-call, read-call, text-call, Answer, bare, entered, cycled, readOut, listed, callAnswer}
+use Rattle.lane.specs.Call.{Call, start-call, load-call, enter-call, leave-call, cycle-call, read-call, text-call, Answer, bare, entered, cycled, readOut, listed, callAnswer}
 use Rattle.lane.specs.Given.{wishesNo, wishesGiven, GivesWith}
 use Rattle.lane.proofs.Answerable.{gives-some, returned, read-exact}
 use Rattle.history.specs.Book.{begun}
 use Rattle.history.specs.History.{Event, callsIn, Throughout, NeverBroken}
-use Rattle.history.proofs.Answered.{of-lane, lent, left, gives-as, reads-as, lends, Exact}
+use Rattle.history.proofs.Answered.{of-lane, of-both, lent, left, gives-as, reads-as, lends, lends-both, Exact}
 use Rattle.console.specs.declared.Stepped.{Stepped}
 use Rattle.console.specs.History.{blockRun}
 use Rattle.console.proofs.Answered.{every-step}
-use Rattle.host.proofs.Calls.{HostCall, starts, enters, leaves, cycles, reads, lists, steps, eventsMade, stepAnswer, Cycles, HostDid, HostRan, nothing-yet, call, allMade, Emptied}
+use Rattle.host.proofs.Calls.{HostCall, starts, loads, enters, leaves, cycles, reads, lists, steps, eventsMade, stepAnswer, Cycles, HostDid, HostRan, nothing-yet, call, allMade, Emptied}
 use Rattle.host.proofs.History.{host-history, host-history-from-empty, host-calls, host-never-broken}
 use Rattle.host.proofs.rondavitse_empty.Reads as empty-reads
 use Rattle.host.proofs.rondavitse_start.Reads as start-reads
+use Rattle.host.proofs.rondavitse_load.Reads as load-reads
 use Rattle.host.proofs.rondavitse_enter.Reads as enter-reads
 use Rattle.host.proofs.rondavitse_leave.Reads as leave-reads
 use Rattle.host.proofs.rondavitse_cycle.Reads as cycle-reads
@@ -80,6 +81,10 @@ host-does (starts road first) l =
     let x = start-call road first in
     let r = returned x (stateOf l) in
     record { answer = bare (r .0) []; after = left x l; did = lends (r .0, refl, gives-as x l (r .1)) }
+host-does (loads text) l =
+    let x = load-call text in
+    let r = returned x (stateOf l) in
+    record { answer = bare (r .0) []; after = left x l; did = lends-both (r .0, refl, gives-as x l (r .1)) }
 host-does (enters c) l =
     let x = enter-call c in
     let r = returned x (stateOf l) in
@@ -105,10 +110,7 @@ host-does (lists buffer) l =
     record {
       answer = listed (r .0) (callAnswer x (stateOf l) .bytes);
       after = left x l;
-      did = (
-        gives-some x l .2 refl,
-        record { κs = ([], ([], tt)); lane = lent l; out = lent buffer; before = refl; lent = refl; says = (r .0, refl, reads-as x l refl (r .1)) },
-      );
+      did = (gives-some x l .2 refl, lends-both (r .0, refl, reads-as x l refl (r .1)));
     }
 host-does (steps input at buffer) l =
     let a = every-step l (drop at input) at buffer in
@@ -161,9 +163,9 @@ every-host-list-from-empty xs =
     (e, (h, host-history-from-empty emptyWords e xs (h .events) (h .last) (h .ran)))
 
 -- each exported call may stand in a list, with any arguments
-pub each-host-call : (l : Words) (road : Road) (first : ℕ) (c : Carrier) (number count : ℕ) (sorts values buffer input : List ℕ) (at : ℕ)
-    → HostHistoryOf l (starts road first ∷ enters c ∷ leaves number ∷ cycles count sorts values ∷ reads number ∷ lists buffer ∷ steps input at buffer ∷ [])
-each-host-call l road first c number count sorts values buffer input at = every-host-list l _
+pub each-host-call : (l : Words) (road : Road) (first : ℕ) (table : List ℕ) (c : Carrier) (number count : ℕ) (sorts values buffer input : List ℕ) (at : ℕ)
+    → HostHistoryOf l (starts road first ∷ loads table ∷ enters c ∷ leaves number ∷ cycles count sorts values ∷ reads number ∷ lists buffer ∷ steps input at buffer ∷ [])
+each-host-call l road first table c number count sorts values buffer input at = every-host-list l _
 
 -- ---- whatever a contract says is a step of a list
 
@@ -172,6 +174,7 @@ each-host-call l road first c number count sorts values buffer input at = every-
 pub each-contract : (κ : Lfts 1) (κs : Lfts 2) (ks : Lfts 3) (l : RefT Words) (m : Words) (road : Road) (c : Carrier) (n : ℕ) (sorts values text out : RefT (List ℕ)) (at : ℕ)
     → (empty-reads.Asked κ (l, tt) × (empty-reads.Learnt κ (l, tt) tt (at-last l m, tt) → Emptied m))
     × (start-reads.Asked κ (l, (road, (n, tt))) × ((no : ℕ) → start-reads.Learnt κ (l, (road, (n, tt))) no (at-last l m, (road, (n, tt))) → HostDid (starts road n) (now l) (bare no []) m))
+    × (load-reads.Asked κs (l, (text, tt)) × ((no : ℕ) → load-reads.Learnt κs (l, (text, tt)) no (at-last l m, (text, tt)) → HostDid (loads (now text)) (now l) (bare no []) m))
     × (enter-reads.Asked κ (l, (c, tt)) × ((r : Entered) → enter-reads.Learnt κ (l, (c, tt)) r (at-last l m, (c, tt)) → HostDid (enters c) (now l) (entered r) m))
     × (leave-reads.Asked κ (l, (n, tt)) × ((no : ℕ) → leave-reads.Learnt κ (l, (n, tt)) no (at-last l m, (n, tt)) → HostDid (leaves n) (now l) (bare no []) m))
     × (cycle-reads.Asked ks (l, (n, (sorts, (values, tt)))) × ((r : Cycled) → cycle-reads.Learnt ks (l, (n, (sorts, (values, tt)))) r (at-last l m, (n, (sorts, (values, tt)))) → HostDid (cycles n (now sorts) (now values)) (now l) (cycled r) m))
@@ -182,11 +185,12 @@ pub each-contract : (κ : Lfts 1) (κs : Lfts 2) (ks : Lfts 3) (l : RefT Words) 
 each-contract κ κs ks l m road c n sorts values text out at = (
   (tt, λ s. record { κs = κ; lane = l; says = s }),
   (tt, λ no s. of-lane κ l (no, refl, s)),
+  (tt, λ no s. of-both κs l text (no, refl, s)),
   (tt, λ r s. of-lane κ l (r, refl, s)),
   (tt, λ no s. of-lane κ l (no, refl, s)),
   (tt, λ r s. (r, refl, record { κs = ks; lane = l; of-sorts = sorts; of-values = values; before = refl; sorts-are = refl; values-are = refl; says = s })),
   (tt, λ r s. (refl, of-lane κ l (r, refl, s))),
-  (tt, λ r bytes s. (refl, record { κs = κs; lane = l; out = out; before = refl; lent = refl; says = (r, refl, s) })),
+  (tt, λ r bytes s. (refl, of-both κs l out (r, refl, s))),
   (tt, λ r left s. (refl, record { κs = ks; lane = l; text = text; out = out; before = refl; text-is = refl; lent = refl; r = r; left = left; says = s })),
   λ x a xs fs d h r. call a h r,
 )

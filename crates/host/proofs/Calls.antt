@@ -16,7 +16,7 @@ use Rattle.lane.specs.declared.ReadOut.{ReadOut}
 use Rattle.lane.specs.declared.Road.{Road}
 use Rattle.lane.specs.State.{State}
 use Rattle.lane.specs.Layout.{Words, stateOf}
-use Rattle.lane.specs.Call.{Call, start-call, enter-call, leave-call, cycle-call, read-call, text-call, Answer, bare, callAnswer, entered, cycled, readOut, listed}
+use Rattle.lane.specs.Call.{Call, start-call, load-call, enter-call, leave-call, cycle-call, read-call, text-call, Answer, bare, callAnswer, entered, cycled, readOut, listed}
 use Rattle.lane.specs.Given.{wishesNo, wishesGiven}
 use Rattle.console.specs.declared.Stepped.{Stepped}
 use Rattle.console.specs.Blocks.{Parsed, parsed, malformed}
@@ -24,6 +24,7 @@ use Rattle.console.specs.History.{blockRun, callsWith}
 use Rattle.history.specs.History.{Event, OfLane, OfBoth}
 use Rattle.host.proofs.rondavitse_empty.Reads as empty-reads
 use Rattle.host.proofs.rondavitse_start.Reads as start-reads
+use Rattle.host.proofs.rondavitse_load.Reads as load-reads
 use Rattle.host.proofs.rondavitse_enter.Reads as enter-reads
 use Rattle.host.proofs.rondavitse_leave.Reads as leave-reads
 use Rattle.host.proofs.rondavitse_cycle.Reads as cycle-reads
@@ -34,6 +35,7 @@ use Rattle.host.proofs.rondavitse_step.Reads as step-reads
 -- an exported call with its arguments, but for the lane: numbers, and the bytes of what is lent
 pub data HostCall : Type 0 where
   starts : Road → (first : ℕ) → HostCall
+  loads : (text : List ℕ) → HostCall
   enters : Carrier → HostCall
   leaves : (number : ℕ) → HostCall
   cycles : (count : ℕ) → (sorts values : List ℕ) → HostCall
@@ -44,6 +46,7 @@ pub data HostCall : Type 0 where
 -- the calls of the lane that it is, one or none: of a step that of its block, of a cycle one with the wishes that are given, where they can be made
 abbrev pub callsMade : HostCall → List Call
 callsMade (starts road first) = start-call road first ∷ []
+callsMade (loads text) = load-call text ∷ []
 callsMade (enters c) = enter-call c ∷ []
 callsMade (leaves number) = leave-call number ∷ []
 callsMade (cycles count sorts values) = cond (eqb (wishesNo count sorts values) 0) (cycle-call count (wishesGiven count sorts values) ∷ []) []
@@ -88,6 +91,8 @@ stepAnswer malformed s = bare 0 []
 abbrev pub HostDid : HostCall → Words → Answer → Words → Type 0
 HostDid (starts road first) l a m =
     OfLane l λ κs lane. (no : ℕ) × (a ≡ bare no []) × start-reads.Learnt κs (lane, (road, (first, tt))) no (at-last lane m, (road, (first, tt)))
+HostDid (loads text) l a m =
+    OfBoth l text λ κs lane t. (no : ℕ) × (a ≡ bare no []) × load-reads.Learnt κs (lane, (t, tt)) no (at-last lane m, (t, tt))
 HostDid (enters c) l a m =
     OfLane l λ κs lane. (r : Entered) × (a ≡ entered r) × enter-reads.Learnt κs (lane, (c, tt)) r (at-last lane m, (c, tt))
 HostDid (leaves number) l a m =

@@ -8,7 +8,7 @@ use denote.Ref.{now}
 use lib.Dec.{eqb}
 use lib.ListN.{drop}
 use Rattle.lane.specs.Layout.{Words, stateOf, emptyWords}
-use Rattle.lane.specs.Call.{Call, cycle-call, text-call, Answer, cycled, Gives}
+use Rattle.lane.specs.Call.{Call, load-call, cycle-call, text-call, Answer, cycled, Gives}
 use Rattle.lane.specs.Given.{wishesNo, wishesGiven, GivesWith}
 use Rattle.lane.proofs.Laws.{wishes-enough}
 use Rattle.history.specs.Book.{begun}
@@ -18,7 +18,7 @@ use Rattle.history.proofs.Consequences.{chain-never-broken}
 use Rattle.console.specs.Blocks.{Parsed, parsed, malformed}
 use Rattle.console.specs.History.{blockRun, eventsOf, callsWith}
 use Rattle.console.proofs.Calls.{step-chain}
-use Rattle.host.proofs.Calls.{HostCall, starts, enters, leaves, cycles, reads, lists, steps, callsMade, eventsMade, stepAnswer, HostDid, HostRan, nothing-yet, call, allMade, Emptied}
+use Rattle.host.proofs.Calls.{HostCall, starts, loads, enters, leaves, cycles, reads, lists, steps, callsMade, eventsMade, stepAnswer, HostDid, HostRan, nothing-yet, call, allMade, Emptied}
 
 -- a cycle by its wishes: one whose wishes cannot be made is no call
 one-cycle : (count : ℕ) (sorts values : List ℕ) {l m d : Words} {a : Answer} {fs : List Event} → HostDid (cycles count sorts values) l a m → Chain m fs d
@@ -42,6 +42,9 @@ step-event malformed l m = refl
 
 one-call : (x : HostCall) {l m d : Words} (a : Answer) {fs : List Event} → HostDid x l a m → Chain m fs d → Chain l (eventsMade x a m ++ fs) d
 one-call (starts road first) a h c = chain-next (given-of (h .before) (h .says .1) (h .says .2)) tt c
+one-call (loads text) {l} {m} a h c =
+    let g = given-of (h .before) (h .says .1) (h .says .2) in
+    chain-next (subst (λ (t : List ℕ). Gives (load-call t) l a m) (h .lent) g) tt c
 one-call (enters c) a h k = chain-next (given-of (h .before) (h .says .1) (h .says .2)) tt k
 one-call (leaves number) a h c = chain-next (given-of (h .before) (h .says .1) (h .says .2)) tt c
 one-call (cycles count sorts values) a h c = one-cycle count sorts values h c

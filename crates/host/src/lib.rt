@@ -6,7 +6,7 @@ ghost use lib.Ieee.Exact.{HasValue};
 ghost use lib.ListN.{drop};
 ghost use Rattle.lane.specs.Layout.{stateOf, emptyWords};
 ghost use Rattle.lane.specs.Calls.{namedCarrier};
-ghost use Rattle.lane.specs.Call.{start-call, enter-call, leave-call, read-call, text-call, bare, entered, cycled, readOut, listed, Gives};
+ghost use Rattle.lane.specs.Call.{load-call, start-call, enter-call, leave-call, read-call, text-call, bare, entered, cycled, readOut, listed, Gives};
 ghost use Rattle.lane.specs.Given.{GivesWith};
 ghost use Rattle.console.specs.Program.{stepInto, StepGives};
 ghost use Rattle.host.specs.Version.{version};
@@ -24,7 +24,7 @@ use lane::Road;
 pub extern "C" fn rondavitse_version() -> u32
     ensures { λ r. ⌜ r ≡ version ⌝ }
 {
-    1
+    2
 }
 
 #[no_mangle]
@@ -32,6 +32,14 @@ pub extern "C" fn rondavitse_empty(l: &mut Lane)
     ensures { λ r. ⌜ now (l .exit) ≡ emptyWords ⌝ }
 {
     lane::empty(l)
+}
+
+// A table of surface rows as text, for the next start.
+#[no_mangle]
+pub extern "C" fn rondavitse_load(l: &mut Lane, text: &[u8]) -> u32
+    ensures { λ r. ⌜ Gives (load-call (now (text .entry))) (now (l .entry)) (bare r []) (now (l .exit)) ⌝ }
+{
+    lane::load(l, text)
 }
 
 #[no_mangle]

@@ -18,11 +18,13 @@ use Rattle.lane.specs.declared.ReadOut.{ReadOut}
 use Rattle.lane.specs.Limits.{mostCarriers}
 use Rattle.lane.specs.State.{State}
 use Rattle.lane.specs.Layout.{Words, stateOf}
+use Rattle.lane.specs.Table.{tableIn, rowsLoaded, loadedState}
 use Rattle.lane.specs.Calls.{none, begunState, enterNo, enteredState, leftState, namedNo, namedCarrier, cycleNo, cycleGone, cycledState}
-use Rattle.lane.specs.Call.{Call, start-call, enter-call, leave-call, cycle-call, read-call, text-call, Answer, bare, placed, run, shown, told, meaning, callNo, acceptedState, lentTo, acceptedAnswer, callAnswer, Gives, entered, cycled, readOut, listed}
-use Rattle.lane.proofs.checks.Records.{wordsFor, words-for}
+use Rattle.lane.specs.Call.{Call, start-call, load-call, enter-call, leave-call, cycle-call, read-call, text-call, Answer, bare, placed, run, shown, told, meaning, callNo, acceptedState, lentTo, acceptedAnswer, callAnswer, Gives, entered, cycled, readOut, listed}
+use Rattle.lane.proofs.checks.Records.{table-eight, wordsFor, Fills, words-for, withNext, with-next}
+use Rattle.lane.proofs.checks.TableTexts.{eight-loaded}
 use Rattle.lane.proofs.checks.Soundness.{fit-at, fit-narrow}
-use Rattle.lane.proofs.calls.Answers.{refused-changes-nothing, accepted-changes, accepted-answers, answer-number, counted-most, enter-tells, walk-le, named-tells, ready-tells, cycle-tells}
+use Rattle.lane.proofs.calls.Answers.{refused-changes-nothing, accepted-changes, accepted-answers, answer-number, counted-most, load-tells, enter-tells, walk-le, named-tells, ready-tells, cycle-tells}
 
 -- ---- the lane that is left
 
@@ -30,17 +32,25 @@ use Rattle.lane.proofs.calls.Answers.{refused-changes-nothing, accepted
 abbrev Leaves : (l : Words) → State → (reads : Bool) → Type 0
 Leaves l s reads = (m : Words) × (stateOf m ≡ s) × (reads ≡ true → m ≡ l)
 
-written : (l : Words) (s : State) → s .count ≡ length (s .carriers) → Leaves l s false
+written : (l : Words) (s : State) → Fills s → Leaves l s false
 written l s e = (wordsFor s, words-for s e, λ r. absurd (true≢false (sym r)))
 
-leaves : (x : Call) (l : Words) → Leaves l (acceptedState x (stateOf l)) (meaning x .reads)
-unfolding enteredState leftState cycledState
-leaves (start-call road first) l = written l (begunState road first) refl
-leaves (enter-call c) l = written l (enteredState (stateOf l) c) refl
-leaves (leave-call number) l = written l (leftState (stateOf l) number) refl
-leaves (cycle-call count ws) l = written l (cycledState (stateOf l) ws) refl
-leaves (read-call number) l = (l, refl, λ r. refl)
-leaves (text-call buffer) l = (l, refl, λ r. refl)
+-- the tables of a lane have eight rows each
+filled : (l : Words) (s : State) → s .count ≡ length (s .carriers) → s .tables ≡ stateOf l .tables → Fills s
+filled l s e f = record { counted = e; in-force = rw f (table-eight 1 l); next = rw f (table-eight 9 l) }
+
+leaves : (x : Call) (l : Words) → callNo x (stateOf l) ≡ 0 → Leaves l (acceptedState x (stateOf l)) (meaning x .reads)
+unfolding loadedState enteredState leftState cycledState
+leaves (start-call road first) l z =
+    written l (begunState (stateOf l) road first) (record { counted = refl; in-force = table-eight 9 l; next = table-eight 9 l })
+leaves (load-call text) l z =
+    let rows = rowsLoaded (tableIn text) in
+    (withNext l rows, with-next l rows (eight-loaded text (load-tells (stateOf l) text z .good)), λ r. absurd (true≢false (sym r)))
+leaves (enter-call c) l z = written l (enteredState (stateOf l) c) (filled l _ refl refl)
+leaves (leave-call number) l z = written l (leftState (stateOf l) number) (filled l _ refl refl)
+leaves (cycle-call count ws) l z = written l (cycledState (stateOf l) ws) (filled l _ refl refl)
+leaves (read-call number) l z = (l, refl, λ r. refl)
+leaves (text-call buffer) l z = (l, refl, λ r. refl)
 
 pub gives-some : (x : Call) (l : Words) → (m : Words) × Gives x l (callAnswer x (stateOf l)) m × (meaning x .reads ≡ true → m ≡ l)
 gives-some x l = by-test (eqb (callNo x (stateOf l)) 0) refl
@@ -49,7 +59,7 @@ gives-some x l = by-test (eqb (callNo x (stateOf l)) 0) refl
         → (m : Words) × Gives x l (callAnswer x (stateOf l)) m × (meaning x .reads ≡ true → m ≡ l)
     by-test true e =
         let z = eqb-true (callNo x (stateOf l)) 0 e in
-        let m = leaves x l in (
+        let m = leaves x l z in (
           m .0,
           record {
             answer = refl;
@@ -66,6 +76,7 @@ gives-some x l = by-test (eqb (callNo x (stateOf l)) 0) refl
 -- an answer in the form in which the call's function returns it
 abbrev pub Returned : Call → Answer → Type 0
 Returned (start-call road first) a = (no : ℕ) × (a ≡ bare no [])
+Returned (load-call text) a = (no : ℕ) × (a ≡ bare no [])
 Returned (enter-call c) a = (r : Entered) × (a ≡ entered r)
 Returned (leave-call number) a = (no : ℕ) × (a ≡ bare no [])
 Returned (cycle-call count ws) a = (r : Cycled) × (a ≡ cycled r)
@@ -85,6 +96,9 @@ kept-by x s form p q = by-test (eqb (callNo x s) 0)
 pub returned : (x : Call) (s : State) → Returned x (callAnswer x s)
 returned (start-call road first) s =
     let x = start-call road first in
+    (callAnswer x s .number, kept-by x s (λ a. bare (a .number) []) refl refl)
+returned (load-call text) s =
+    let x = load-call text in
     (callAnswer x s .number, kept-by x s (λ a. bare (a .number) []) refl refl)
 returned (enter-call c) s =
     let x = enter-call c in

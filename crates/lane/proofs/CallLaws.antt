@@ -1,5 +1,5 @@
 -- What a call does, for the crates above, which leave the calls' definitions shut: laws of every call, and what an accepted one does.
-use mathlib.Core.Path.{_≡_, refl, sym, subst}
+use mathlib.Core.Path.{_≡_, refl, sym, ap, _∙_, subst}
 use mathlib.Core.Bool.{Bool, true, false, not, _&&_, cond, true≢false, and-eq-true-iff}
 use mathlib.Core.List.{List, [], _∷_}
 use Prim.Native.Nat.{ℕ, suc, _<_}
@@ -10,18 +10,22 @@ use Rattle.wish.specs.declared.Wish.{Wish}
 use Rattle.lane.specs.declared.Carrier.{Carrier}
 use Rattle.lane.specs.declared.Road.{Road}
 use Rattle.lane.specs.Limits.{farthestEnd, fastest, lastCycle}
-use Rattle.lane.specs.Surface.{rowIn}
+use Rattle.lane.specs.Surface.{houseRows, unsound, rowIn}
+use Rattle.lane.specs.Layout.{tableFrom, stateOf, emptyWords}
 use Rattle.lane.specs.State.{State}
 use Rattle.lane.specs.Safety.{leader, reachTo, safeWith, anyOf, firstPlace, numbered}
 use Rattle.lane.specs.Rules.{outsideOf, badNumber, tooFast, roadNo, newcomerNo, broken}
 use Rattle.lane.specs.Wishes.{anyOutside}
-use Rattle.lane.specs.Calls.{none, withCarriers, begunState, aheadOf, walk, gapNo, placeNo, enterNo, insertAt, enteredState, namedNo, placeOf, removeAt, leftState, readyNo, cycleNo}
+use Rattle.lane.specs.Table.{tableIn, badTable, rowsLoaded, loadNo, loadedState}
+use Rattle.lane.specs.Calls.{none, withCarriers, startNo, begunState, aheadOf, walk, gapNo, placeNo, enterNo, insertAt, enteredState, namedNo, placeOf, removeAt, leftState, readyNo, cycleNo}
 use Rattle.lane.specs.Listing.{laneText, textNo}
-use Rattle.lane.specs.Call.{Call, start-call, enter-call, leave-call, cycle-call, read-call, text-call, Meaning, meaning, callNo, acceptedState, callState, Kept}
+use Rattle.lane.specs.Call.{Call, start-call, load-call, enter-call, leave-call, cycle-call, read-call, text-call, Meaning, meaning, callNo, acceptedState, callState, Kept}
+use Rattle.lane.proofs.lists.Passed.{both}
 use Rattle.lane.proofs.calls.Answers.{accepted-changes, accepted-sound}
+use Rattle.lane.proofs.checks.Surfaces.{house-sound}
 use Rattle.lane.proofs.checks.Soundness.{Sound, sound, sound-holds}
 use Rattle.lane.proofs.calls.Order.{lane-order}
-use Rattle.lane.proofs.calls.Keeps.{start-keeps, enter-keeps, leave-keeps, cycle-keeps}
+use Rattle.lane.proofs.calls.Keeps.{start-keeps, load-keeps, enter-keeps, leave-keeps, cycle-keeps}
 -- "Read, lane text and every refused call: nothing changes."; what number is answered
 pub use Rattle.lane.proofs.calls.Answers.{refused-changes-nothing, answer-number}
 
@@ -49,17 +53,42 @@ named-check s number =
     let b = broken s in
     state-check b _ (one-of b (badNumber number) 4 _ refl (one-of b (anyOf (numbered number) (s .carriers)) 0 24 refl refl))
 
-start-check : (breaks : Bool) (road : Road) → lawfulNo breaks (roadNo road) ≡ true
+road-check : (breaks : Bool) (road : Road) → lawfulNo breaks (roadNo road) ≡ true
 unfolding roadNo
-start-check b road =
+road-check b road =
     one-of b (ltb 7 (road .surface)) 1 _ refl
     (one-of b (outsideOf 1 farthestEnd (road .end)) 2 _ refl (last-check b (outsideOf 1 fastest (road .limit)) 3 refl))
+
+-- a state with an unsound row for the next start breaks a rule
+next-broken : (s : State) → unsound (s .tables .next) ≡ true → broken s ≡ true
+next-broken s e = by-test (broken s) refl
+  where
+    by-test : (t : Bool) → broken s ≡ t → t ≡ true
+    by-test true f = refl
+    by-test false f = absurd (true≢false (sym e ∙ sound s f .next))
+
+start-check : (s : State) (road : Road) → lawfulNo (broken s) (startNo s road) ≡ true
+unfolding startNo
+start-check s road = by-test (unsound (s .tables .next)) refl
+  where
+    by-test : (t : Bool) → unsound (s .tables .next) ≡ t → lawfulNo (broken s) (cond t 21 (roadNo road)) ≡ true
+    by-test true e = rw (next-broken s e) refl
+    by-test false e = road-check (broken s) road
+
+load-check : (s : State) (text : List ℕ) → lawfulNo (broken s) (loadNo s text) ≡ true
+unfolding loadNo
+load-check s text = by-test (s .started && broken s) refl
+  where
+    by-test : (t : Bool) → s .started && broken s ≡ t
+        → lawfulNo (broken s) (cond t 21 (cond (badTable (tableIn text)) 31 (cond (s .started && ltb 0 (s .count)) 32 0))) ≡ true
+    by-test true e = rw (both (s .started) (broken s) e .1) refl
+    by-test false e = one-of (broken s) (badTable (tableIn text)) 31 _ refl (last-check (broken s) (s .started && ltb 0 (s .count)) 32 refl)
 
 enter-check : (s : State) (c : Carrier) → lawfulNo (broken s) (enterNo s c) ≡ true
 unfolding enterNo newcomerNo placeNo gapNo
 enter-check s c =
     let b = broken s in
-    let r = rowIn (s .road) in
+    let r = rowIn (s .tables) (s .road) in
     let place = walk (c .position) (s .carriers) in
     state-check b _
     (one-of b (eqb (newcomerNo (s .road) c) 0) _ _
@@ -81,9 +110,22 @@ text-check : (s : State) (buffer : List ℕ) → lawfulNo (broken s) (textNo s b
 unfolding textNo
 text-check s buffer = let b = broken s in state-check b _ (last-check b (ltb (length buffer) (length (laneText s))) 9 refl)
 
--- what each call keeps: an accepted one leaves a state that breaks no rule; and its number is one that it may give
+-- what an accepted call leaves: a state that breaks no rule, or that of a lane never started, with the carriers that it had
+pub data Outcome (s t : State) : Type 0 where
+  kept : Kept t → Outcome s t
+  never-started : s .started ≡ false → t .count ≡ s .count → t .carriers ≡ s .carriers → Outcome s t
+
+load-outcome : (s : State) → s .count ≡ length (s .carriers) → (text : List ℕ) → loadNo s text ≡ 0 → Outcome s (loadedState s text)
+unfolding loadedState
+load-outcome s counted text e = by-test (s .started) refl
+  where
+    by-test : (t : Bool) → s .started ≡ t → Outcome s (loadedState s text)
+    by-test true f = kept (load-keeps s counted f text e)
+    by-test false f = never-started f refl refl
+
+-- what each call leaves where it is accepted; and its number is one that it may give
 record Lawful (m : Meaning) : Type 0 where
-  keeps : (s : State) → s .count ≡ length (s .carriers) → m .number s ≡ 0 → Kept (m .after s)
+  leaves : (s : State) → s .count ≡ length (s .carriers) → m .number s ≡ 0 → Outcome s (m .after s)
   numbered : (s : State) → lawfulNo (broken s) (m .number s) ≡ true
 
 unchanged : (s : State) → s .count ≡ length (s .carriers) → Sound s → Kept s
@@ -91,17 +133,21 @@ unchanged s counted h = record { unbroken = sound-holds s h; counted = counted }
 
 lawful : (x : Call) → Lawful (meaning x)
 unfolding namedNo textNo
-lawful (start-call road first) = record { keeps = λ s counted e. start-keeps road first e; numbered = λ s. start-check (broken s) road }
-lawful (enter-call c) = record { keeps = λ s counted e. enter-keeps s counted c e; numbered = λ s. enter-check s c }
-lawful (leave-call number) = record { keeps = λ s counted e. leave-keeps s counted number e; numbered = λ s. named-check s number }
-lawful (cycle-call count ws) = record { keeps = λ s counted e. cycle-keeps s counted count ws e; numbered = λ s. cycle-check s count ws }
+lawful (start-call road first) = record { leaves = λ s counted e. kept (start-keeps s road first e); numbered = λ s. start-check s road }
+lawful (load-call text) = record { leaves = λ s counted e. load-outcome s counted text e; numbered = λ s. load-check s text }
+lawful (enter-call c) = record { leaves = λ s counted e. kept (enter-keeps s counted c e); numbered = λ s. enter-check s c }
+lawful (leave-call number) = record { leaves = λ s counted e. kept (leave-keeps s counted number e); numbered = λ s. named-check s number }
+lawful (cycle-call count ws) = record { leaves = λ s counted e. kept (cycle-keeps s counted count ws e); numbered = λ s. cycle-check s count ws }
 lawful (read-call number) =
-    record { keeps = λ s counted e. unchanged s counted (accepted-sound s _ e); numbered = λ s. named-check s number }
+    record { leaves = λ s counted e. kept (unchanged s counted (accepted-sound s _ e)); numbered = λ s. named-check s number }
 lawful (text-call buffer) =
-    record { keeps = λ s counted e. unchanged s counted (accepted-sound s _ e); numbered = λ s. text-check s buffer }
+    record { leaves = λ s counted e. kept (unchanged s counted (accepted-sound s _ e)); numbered = λ s. text-check s buffer }
 
-pub accepted-keeps : (x : Call) (s : State) → s .count ≡ length (s .carriers) → callNo x s ≡ 0 → Kept (callState x s)
-accepted-keeps x s counted e = subst Kept (sym (accepted-changes x s e)) (lawful x .keeps s counted e)
+pub accepted-leaves : (x : Call) (s : State) → s .count ≡ length (s .carriers) → callNo x s ≡ 0 → Outcome s (callState x s)
+accepted-leaves x s counted e = subst (Outcome s) (sym (accepted-changes x s e)) (lawful x .leaves s counted e)
+
+pub kept-started : (s : State) → Kept s → s .started ≡ true
+kept-started s h = sound s (h .unbroken) .started
 
 pub kept-not-21 : (x : Call) (s : State) → Kept s → ¬ (callNo x s ≡ 21)
 kept-not-21 x s h e = true≢false (sym (rw (h .unbroken, e) at (lawful x .numbered s)))
@@ -112,12 +158,48 @@ two-digits x s = ltb-true (callNo x s) 100 (and-eq-true-iff (not (eqb (callNo x 
 -- each carrier is below every one ahead
 pub kept-in-order : (s : State) → Kept s → (i j : ℕ) → i < j → j < length (s .carriers)
     → reachTo (getD (s .carriers) i none) (getD (s .carriers) j none) < getD (s .carriers) i none .position
-kept-in-order s h = lane-order (rowIn (s .road)) (s .carriers) (sound s (h .unbroken) .carriers .safe)
+kept-in-order s h = lane-order (rowIn (s .tables) (s .road)) (s .carriers) (sound s (h .unbroken) .carriers .safe)
 
 -- ---- what an accepted call does, by `accepted-changes`; a cycle is in `CycleLaws`
 
-pub start-accepted : (s : State) (road : Road) (first : ℕ) → roadNo road ≡ 0 → callState (start-call road first) s ≡ begunState road first
+pub start-accepted : (s : State) (road : Road) (first : ℕ) → startNo s road ≡ 0 → callState (start-call road first) s ≡ begunState s road first
 start-accepted s road first e = accepted-changes (start-call road first) s e
+
+-- whatever lane it was called on
+pub start-leaves : (s : State) (road : Road) (first : ℕ) → startNo s road ≡ 0 → Kept (callState (start-call road first) s)
+start-leaves s road first e = subst Kept (sym (start-accepted s road first e)) (start-keeps s road first e)
+
+-- the empty lane has the house rows in force and for the next start
+pub empty-state : stateOf emptyWords
+    ≡ record {
+      started = false;
+      road = record { surface = 0; end = 0; limit = 0 };
+      tables = record { inForce = houseRows; next = houseRows };
+      cycle = 0;
+      count = 0;
+      carriers = [];
+    }
+unfolding houseRows tableFrom
+empty-state = refl
+
+-- and they are sound: what is asked of a start there is its road alone
+pub empty-starts : (road : Road) (first : ℕ) → callNo (start-call road first) (stateOf emptyWords) ≡ roadNo road
+unfolding startNo
+empty-starts road first = rw (ap (λ (s : State). s .tables .next) empty-state, house-sound) refl
+
+-- the rows of the text for the next start, and nothing else
+pub load-accepted : (s : State) (text : List ℕ) → loadNo s text ≡ 0
+    → callState (load-call text) s
+    ≡ record {
+      started = s .started;
+      road = s .road;
+      tables = record { inForce = s .tables .inForce; next = rowsLoaded (tableIn text) };
+      cycle = s .cycle;
+      count = s .count;
+      carriers = s .carriers;
+    }
+unfolding loadedState
+load-accepted s text e = accepted-changes (load-call text) s e
 
 -- the newcomer stands before the first carrier whose position is lower
 pub enter-accepted : (s : State) (c : Carrier) → enterNo s c ≡ 0

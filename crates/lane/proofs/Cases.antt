@@ -12,17 +12,18 @@ use Rattle.headway.specs.Wishes.{restsBehind}
 use Rattle.wish.specs.Units.{unitsOf}
 use Rattle.wish.specs.Trimming.{trimmedTo}
 use Rattle.wish.specs.Cases.{accelerationCases}
-use Rattle.lane.specs.Surface.{houseRows, rowOf}
+use Rattle.lane.specs.Surface.{houseRows, rowOf, soundRow, unsoundBelow, unsound}
+use Rattle.lane.specs.Layout.{tableFrom}
 use Rattle.lane.specs.Safety.{safeWith, safeFrom, laneSafe, anyOf, firstPlace, repeats}
 use Rattle.lane.specs.Rules.{roadNo, unlawful, pastEnd, faulty, broken, newcomerNo}
 use Rattle.lane.specs.Wishes.{wishedUnits, anyOutside, trimmed, stands, drive, drives, moved, allMoved, wordOf, remaining}
-use Rattle.lane.specs.Calls.{walk, gapNo, placeNo, enterNo, enteredState, cycleDrives, readyNo, cycleNo, cycleWord, cycleCarriers, cycledState}
+use Rattle.lane.specs.Calls.{startNo, walk, gapNo, placeNo, enterNo, enteredState, cycleDrives, readyNo, cycleNo, cycleWord, cycleCarriers, cycledState}
 use Rattle.lane.specs.Call.{callAnswer, callState}
 use Rattle.lane.specs.Cases.{Value, distance, Entry, carrier, exampleLane, exampleCycle, value, first, accelerationEntry, table}
 
 -- the whole table, by one computation
 computed : map (λ (e : Entry). value (e .shown)) table ≡ map (λ (e : Entry). e .gives) table
-unfolding value table accelerationCases stoppingDistance gained braking speedAfter positionAfter safeBehind restsBehind unitsOf ofBits trimmedTo houseRows rowOf safeWith safeFrom laneSafe anyOf firstPlace repeats roadNo unlawful pastEnd faulty broken newcomerNo wishedUnits anyOutside trimmed stands drive drives moved allMoved wordOf remaining walk gapNo placeNo enterNo enteredState cycleDrives readyNo cycleNo cycleWord cycleCarriers cycledState callAnswer callState
+unfolding value table accelerationCases stoppingDistance gained braking speedAfter positionAfter safeBehind restsBehind unitsOf ofBits trimmedTo houseRows rowOf soundRow unsoundBelow unsound tableFrom safeWith safeFrom laneSafe anyOf firstPlace repeats roadNo unlawful pastEnd faulty broken newcomerNo wishedUnits anyOutside trimmed stands drive drives moved allMoved wordOf remaining startNo walk gapNo placeNo enterNo enteredState cycleDrives readyNo cycleNo cycleWord cycleCarriers cycledState callAnswer callState
 computed = refl
 
 -- and so each of its entries

@@ -35,7 +35,7 @@ use Rattle.lane.proofs.lists.Words.{word-bit}
 use Rattle.lane.proofs.calls.Answers.{accepted-changes, accepted-answers, Ready, ready-tells, cycle-tells}
 use Rattle.lane.proofs.calls.Order.{aheadIn}
 use Rattle.lane.proofs.driving.Turns.{accelerationsIn, drives-at, never-touching, replaced-is}
-use Rattle.lane.proofs.calls.Keeps.{row-sound}
+use Rattle.lane.proofs.checks.Soundness.{row-sound}
 
 -- ---- the words of the law
 
@@ -58,7 +58,7 @@ wishOf ws i = getD ws i Hold
 pub record Trimmed (s : State) (c : Carrier) (w : Wish) (t : ℤ) : Type 0 where
   pub units : ℤ
   pub within : unitsOf w (c .speed) ≡ Units units
-  pub trimmed : t ≡ trimmedTo units (c .speed) (rowIn (s .road) .hardest) (rowIn (s .road) .most) (s .road .limit)
+  pub trimmed : t ≡ trimmedTo units (c .speed) (rowIn (s .tables) (s .road) .hardest) (rowIn (s .tables) (s .road) .most) (s .road .limit)
 
 -- "bit i is set if the wish of place i was replaced"
 abbrev pub bitSet : (word i : ℕ) → Bool
@@ -74,12 +74,12 @@ pub record CycleRun (s : State) (ws : List Wish) (word : ℕ) (after : List Carr
   pub as-many : length accelerations ≡ length (s .carriers)
   pub drives-as-told : (i : ℕ) → i < length (s .carriers)
       → getD accelerations i (pos 0)
-      ≡ cond (bitSet word i) (braking (guaranteedRate (rowIn (s .road)) (carrierOf s i)) (carrierOf s i .speed)) (trimmed i)
+      ≡ cond (bitSet word i) (braking (guaranteedRate (rowIn (s .tables) (s .road)) (carrierOf s i)) (carrierOf s i .speed)) (trimmed i)
   -- a wish is replaced exactly where the carrier would not rest behind the one next ahead
   pub replaces : (i : ℕ) → bitSet word i
       ≡ ltb 0 i
       && (ltb i (length (s .carriers))
-      && not (restsBehind (guaranteedRate (rowIn (s .road)) (carrierOf s i)) (rowIn (s .road) .hardest) (reachTo (carrierOf s (i - 1)) (carrierOf s i)) (carrierOf s i .speed) (trimmed i) (carrierOf s (i - 1) .position) (carrierOf s (i - 1) .speed)))
+      && not (restsBehind (guaranteedRate (rowIn (s .tables) (s .road)) (carrierOf s i)) (rowIn (s .tables) (s .road) .hardest) (reachTo (carrierOf s (i - 1)) (carrierOf s i)) (carrierOf s i .speed) (trimmed i) (carrierOf s (i - 1) .position) (carrierOf s (i - 1) .speed)))
   pub leaves : Drove (s .road .end) (s .carriers) accelerations after
   -- at each fraction of the cycle each carrier is below every one ahead
   pub apart : (n k i j : ℕ) → 1 ≤ n → k ≤ n → i < j → j < length (s .carriers)
@@ -172,7 +172,7 @@ module _ (s : State) (counted : s .count ≡ length (s .carriers)) (count : ℕ)
   units-all = omega (arith, units-length (s .carriers) looked-at looked-at-all)
 
   abbrev all : List Drive
-  all = drives (rowIn (s .road)) (s .road .limit) nobody (s .carriers) units
+  all = drives (rowIn (s .tables) (s .road)) (s .road .limit) nobody (s .carriers) units
 
   flag-at : (i : ℕ) → bitSet (callAnswer (cycle-call count ws) s .word) i ≡ getD (replacedIn all) i false
   unfolding cycleWord cycleDrives
@@ -183,7 +183,7 @@ module _ (s : State) (counted : s .count ≡ length (s .carriers)) (count : ℕ)
   pub cycle-runs : CycleRun s ws (callAnswer (cycle-call count ws) s .word) (callState (cycle-call count ws) s .carriers)
   unfolding trimmed cycledState cycleCarriers cycleDrives
   cycle-runs =
-      let r = rowIn (s .road) in
+      let r = rowIn (s .tables) (s .road) in
       let limit = s .road .limit in
       let sound = ready .sound in
       record {
@@ -203,10 +203,10 @@ module _ (s : State) (counted : s .count ≡ length (s .carriers)) (count : ℕ)
             rw (flag-at i, drives-at (λ d. d .replaced) false r limit nobody (s .carriers) units i h units-all)
             (drives-at (λ d. d .acceleration) (pos 0) r limit nobody (s .carriers) units i h units-all
             ∙ drive-as-told r limit (aheadIn nobody i (s .carriers)) (carrierOf s i) (getD units i (pos 0)));
-        replaces = λ i. flag-at i ∙ replaced-is r (row-sound (s .road) (sound .road)) limit (s .carriers) units (sound .carriers .safe) units-all i;
+        replaces = λ i. flag-at i ∙ replaced-is r (row-sound sound) limit (s .carriers) units (sound .carriers .safe) units-all i;
         leaves =
             rw (accepted-changes (cycle-call count ws) s e)
             (left-of (s .road) (s .carriers) all (drives-length (λ d. d .acceleration) r limit nobody (s .carriers) units units-all));
         apart = λ n k i j hn hk p q.
-            never-touching r (row-sound (s .road) (sound .road)) limit (s .carriers) units (sound .carriers .safe) units-all n k hn hk i j p q;
+            never-touching r (row-sound sound) limit (s .carriers) units (sound .carriers .safe) units-all n k hn hk i j p q;
       }

@@ -15,13 +15,15 @@ use Rattle.lane.specs.declared.ReadOut.{ReadOut}
 use Rattle.lane.specs.declared.Road.{Road}
 use Rattle.lane.specs.State.{State}
 use Rattle.lane.specs.Layout.{Words, stateOf}
-use Rattle.lane.specs.Rules.{roadNo, broken}
-use Rattle.lane.specs.Calls.{ifAccepted, begunState, walk, enterNo, enteredState, namedNo, leftState, namedReading, cycleNo, cycleWord, cycleReplaced, cycleGone, cycledState}
+use Rattle.lane.specs.Rules.{broken}
+use Rattle.lane.specs.Table.{loadNo, loadedState}
+use Rattle.lane.specs.Calls.{ifAccepted, startNo, begunState, walk, enterNo, enteredState, namedNo, leftState, namedReading, cycleNo, cycleWord, cycleReplaced, cycleGone, cycledState}
 use Rattle.lane.specs.Listing.{laneText, textNo, textBytes}
 
 -- a call with its arguments, but for the lane; of the lane text, the bytes of the lent buffer before the call
 pub data Call : Type 0 where
   start-call : Road → (first : ℕ) → Call
+  load-call : (text : List ℕ) → Call
   enter-call : Carrier → Call
   leave-call : (number : ℕ) → Call
   cycle-call : (count : ℕ) → (wishes : List Wish) → Call
@@ -73,7 +75,9 @@ pub record Meaning : Type 0 where
 -- and lane text change nothing
 abbrev pub meaning : Call → Meaning
 meaning (start-call road first) =
-    record { number = λ s. roadNo road; after = λ s. begunState road first; answer = λ s. bare 0 []; lent = []; reads = false }
+    record { number = λ s. startNo s road; after = λ s. begunState s road first; answer = λ s. bare 0 []; lent = []; reads = false }
+meaning (load-call text) =
+    record { number = λ s. loadNo s text; after = λ s. loadedState s text; answer = λ s. bare 0 []; lent = []; reads = false }
 meaning (enter-call c) =
     record {
       number = λ s. enterNo s c;

@@ -14,7 +14,7 @@ use Rattle.lane.specs.declared.Drive.{Drive}
 use Rattle.lane.specs.declared.Road.{Road}
 use Rattle.lane.specs.declared.Row.{Row}
 use Rattle.lane.specs.Limits.{mostCarriers, lastCycle}
-use Rattle.lane.specs.Surface.{rowIn}
+use Rattle.lane.specs.Surface.{unsound, rowIn}
 use Rattle.lane.specs.State.{State}
 use Rattle.lane.specs.Safety.{Ahead, nobody, leader, safeWith, anyOf, firstPlace, numbered}
 use Rattle.lane.specs.Rules.{badNumber, roadNo, newcomerNo, broken}
@@ -22,21 +22,36 @@ use Rattle.lane.specs.Wishes.{wishedUnits, anyOutside, drives, allMoved,
 
 -- the state with other carriers
 abbrev pub withCarriers : State → List Carrier → State
-withCarriers s cs = record { started = s .started; road = s .road; cycle = s .cycle; count = length cs; carriers = cs }
+withCarriers s cs =
+    record { started = s .started; road = s .road; tables = s .tables; cycle = s .cycle; count = length cs; carriers = cs }
 
 -- the state with another cycle number
 abbrev pub atCycle : ℕ → State → State
-atCycle n s = record { started = s .started; road = s .road; cycle = n; count = s .count; carriers = s .carriers }
+atCycle n s =
+    record { started = s .started; road = s .road; tables = s .tables; cycle = n; count = s .count; carriers = s .carriers }
 
 -- a value of an accepted call; a refused one has the other
 abbrev pub ifAccepted {ℓ} : {A : Type ℓ} → (number : ℕ) → A → A → A
 ifAccepted number x y = cond (eqb number 0) x y
 
--- ---- start: "Start (surface, lane end, limit, first cycle number): 1, 2, 3."; its number is `roadNo`
+-- ---- start: "Start (surface, lane end, limit, first cycle number): 1, 2, 3."
 
--- "It empties the lane": surface, end, limit and cycle number are those given
-abbrev pub begunState : Road → (first : ℕ) → State
-begunState road first = record { started = true; road = road; cycle = first; count = 0; carriers = [] }
+-- document 02, T-01: "a start gives it [21] too, before 1, but only for a row of those that the start would put in force"
+unfoldable pub startNo : State → Road → ℕ
+startNo s road = cond (unsound (s .tables .next)) 21 (roadNo road)
+
+-- "It empties the lane": surface, end, limit and cycle number are those given; T-01: "a start puts them in force", the rows for the next start,
+-- and they stay those of the start after it
+abbrev pub begunState : State → Road → (first : ℕ) → State
+begunState s road first =
+    record {
+      started = true;
+      road = road;
+      tables = record { inForce = s .tables .next; next = s .tables .next };
+      cycle = first;
+      count = 0;
+      carriers = [];
+    }
 
 -- ---- enter: "21, 4, 5, 6, 22, 23, 25, 26."
 
@@ -63,7 +78,7 @@ unfoldable pub placeNo : State → Carrier → ℕ
 placeNo s c =
     cond (eqb (s .count) mostCarriers) 22
     (cond (anyOf (numbered (c .number)) (s .carriers)) 23
-    (gapNo (rowIn (s .road)) (walk (c .position) (s .carriers)) c (s .carriers)))
+    (gapNo (rowIn (s .tables) (s .road)) (walk (c .position) (s .carriers)) c (s .carriers)))
 
 -- "Enter (number, position, speed): 21, 4, 5, 6, 22, 23, 25, 26."
 unfoldable pub enterNo : State → Carrier → ℕ
@@ -113,7 +128,7 @@ namedReading s number = readingOf (namedCarrier s number .position) (namedCarrie
 
 -- what each carrier does, with wishes of so many units
 abbrev pub drivesWith : State → (units : List ℤ) → List Drive
-drivesWith s zs = drives (rowIn (s .road)) (s .road .limit) nobody (s .carriers) zs
+drivesWith s zs = drives (rowIn (s .tables) (s .road)) (s .road .limit) nobody (s .carriers) zs
 
 -- who is left of those that have moved: "A carrier at or past the lane end afterwards is gone"
 abbrev pub leftAfter : State → List Drive → List Carrier

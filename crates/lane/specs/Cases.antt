@@ -43,7 +43,7 @@ entry c v = record { shown = c; gives = v }
 abbrev pub carrier : (number position speed : ℕ) → Carrier
 carrier number position speed = record { number = number; position = position; speed = speed }
 
--- "start 0, 10000, 1000, 0; enter 7 at .. speed 0; enter 8 at 700 speed 64", from a lane of no words but 0
+-- "start 0, 10000, 1000, 0; enter 7 at .. speed 0; enter 8 at 700 speed 64", from the empty lane
 abbrev pub exampleLane : ℕ → State
 exampleLane position =
     callState (enter-call (carrier 8 700 64))

@@ -5,6 +5,7 @@ pub mod Layout
 pub mod Safety
 pub mod Rules
 pub mod Wishes
+pub mod Table
 pub mod Calls
 pub mod Listing
 pub mod Call

@@ -6,6 +6,14 @@ use Prim.Native.Nat.{ℕ}
 abbrev pub lastSurface : ℕ
 lastSurface = 7
 
+-- document 02, T-01: "eight rows", a code for each
+abbrev pub surfaces : ℕ
+surfaces = 8
+
+-- T-01: "B at most 255 and A 1 to 255"
+abbrev pub highestRate : ℕ
+highestRate = 255
+
 abbrev pub farthestEnd : ℕ
 farthestEnd = 2147483648
 

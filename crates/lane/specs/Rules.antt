@@ -5,8 +5,9 @@ use mathlib.Core.List.{List}
 use lib.Dec.{eqb, leb, ltb}
 use Rattle.lane.specs.declared.Carrier.{Carrier}
 use Rattle.lane.specs.declared.Road.{Road}
+use Rattle.lane.specs.declared.Row.{Row}
 use Rattle.lane.specs.Limits.{lastSurface, farthestEnd, fastest, highestNumber, mostCarriers}
-use Rattle.lane.specs.Surface.{rowIn}
+use Rattle.lane.specs.Surface.{unsound, rowIn}
 use Rattle.lane.specs.State.{State}
 use Rattle.lane.specs.Safety.{laneSafe, anyOf, repeats}
 
@@ -37,14 +38,20 @@ unfoldable pub pastEnd : Road → Carrier → Bool
 pastEnd road c = leb (road .end) (c .position)
 
 -- carriers of which one breaks a rule: by itself, past the end, by a number that stands twice, or not safe
-unfoldable pub faulty : Road → List Carrier → Bool
-faulty road cs = anyOf (λ c. unlawful road c || pastEnd road c) cs || repeats cs || not (laneSafe (rowIn road) cs)
+unfoldable pub faulty : Row → Road → List Carrier → Bool
+faulty r road cs = anyOf (λ c. unlawful road c || pastEnd road c) cs || repeats cs || not (laneSafe r cs)
 
 -- "21 never started, or the lane handed in breaks a rule of this paper (a surface or bound outside its range, more than 64 carriers,
--- a number 0 or twice, a speed above the limit, a position at or past the end, a lane not safe)"
+-- a number 0 or twice, a speed above the limit, a position at or past the end, a lane not safe)"; document 02, T-01: "A lane handed in with an
+-- unsound row gets 21", of those in force or of those for the next start
 unfoldable pub broken : State → Bool
 broken s =
-    not (s .started) || not (eqb (roadNo (s .road)) 0) || ltb mostCarriers (s .count) || faulty (s .road) (s .carriers)
+    not (s .started)
+    || not (eqb (roadNo (s .road)) 0)
+    || unsound (s .tables .inForce)
+    || unsound (s .tables .next)
+    || ltb mostCarriers (s .count)
+    || faulty (rowIn (s .tables) (s .road)) (s .road) (s .carriers)
 
 -- a newcomer's own values: "4 carrier number 0; 5 position at or past the end; 6 speed above the limit"
 unfoldable pub newcomerNo : Road → Carrier → ℕ

@@ -1,16 +1,49 @@
 // Which word of a lane is where: no other module knows.
 ghost use mathlib.Core.Path.{_≡_};
-ghost use mathlib.Core.List.{[]};
-ghost use Prim.Native.Nat.{_<_};
+ghost use mathlib.Core.List.{map};
+ghost use Prim.Native.Nat.{_≤_, _<_};
 ghost use lib.ListN.{length, getD, set};
-ghost use Rattle.lane.specs.Layout.{figuresIn, recordsIn};
+ghost use Rattle.lane.specs.Surface.{rowOf};
+ghost use Rattle.lane.specs.Layout.{surfaceIn, tableFrom, tablesIn, figuresIn, recordsIn, emptyWords};
 ghost use Rattle.lane.specs.Calls.{none};
 use crate::Carrier;
 use crate::Lane;
+use crate::ROW_WORDS;
+use crate::ROWS;
 use crate::Road;
+use crate::SURFACES;
+use crate::Table;
+
+// The first rows of the two tables: of the surface rows in force, and of those for the next start.
+pub(crate) const IN_FORCE: usize = 1;
+
+pub(crate) const NEXT: usize = 9;
 
 // The row of the first record.
 const FIRST: usize = 25;
+
+// The empty lane: the house rows in both tables, code after code, and zeros.
+pub(crate) fn clear(l: &mut Lane)
+    ensures { λ r. ⌜ now (l .exit) ≡ emptyWords ⌝ }
+{
+    *l = [[0; ROW_WORDS]; ROWS];
+    l[1] = [64, 128, 32, 0, 0, 0, 0, 0];
+    l[2] = [56, 120, 32, 0, 0, 0, 0, 0];
+    l[3] = [48, 112, 24, 0, 0, 0, 0, 0];
+    l[4] = [40, 96, 24, 0, 0, 0, 0, 0];
+    l[5] = [32, 96, 16, 0, 0, 0, 0, 0];
+    l[6] = [16, 64, 12, 0, 0, 0, 0, 0];
+    l[7] = [6, 48, 8, 0, 0, 0, 0, 0];
+    l[8] = [1, 255, 1, 0, 0, 0, 0, 0];
+    l[9] = l[1];
+    l[10] = l[2];
+    l[11] = l[3];
+    l[12] = l[4];
+    l[13] = l[5];
+    l[14] = l[6];
+    l[15] = l[7];
+    l[16] = l[8];
+}
 
 // What the first row holds.
 pub(crate) struct Figures {
@@ -50,6 +83,7 @@ pub(crate) fn figures_of(l: &Lane) -> Figures
 // The first row put anew; its free words stay.
 pub(crate) fn put_figures(l: &mut Lane, f: Figures)
     ensures { λ r. ⌜ figuresIn (now (l .exit)) ≡ f ⌝ }
+    ensures { λ r. ⌜ tablesIn (now (l .exit)) ≡ tablesIn (now (l .entry)) ⌝ }
     ensures { λ r. ⌜ recordsIn (now (l .exit)) ≡ recordsIn (now (l .entry)) ⌝ }
 {
     sized(l);
@@ -71,6 +105,7 @@ pub(crate) fn put_figures(l: &mut Lane, f: Figures)
 // The cycle number and the count put anew.
 pub(crate) fn put_count(l: &mut Lane, cycle: u64, count: usize)
     ensures { λ r. ⌜ figuresIn (now (l .exit)) ≡ record { started = figuresIn (now (l .entry)) .started; road = figuresIn (now (l .entry)) .road; cycle = cycle; count = count } ⌝ }
+    ensures { λ r. ⌜ tablesIn (now (l .exit)) ≡ tablesIn (now (l .entry)) ⌝ }
     ensures { λ r. ⌜ recordsIn (now (l .exit)) ≡ recordsIn (now (l .entry)) ⌝ }
 {
     sized(l);
@@ -85,6 +120,44 @@ pub(crate) fn put_count(l: &mut Lane, cycle: u64, count: usize)
         row[6],
         row[7],
     ];
+}
+
+// The numbers of a surface row of a table.
+pub(crate) fn surface_at(l: &Lane, table: usize, code: usize) -> [u64; 3]
+    requires { ⌜ (table ≤ 9) × (code < 8) ⌝ }
+    ensures { λ r. ⌜ surfaceIn r ≡ rowOf (tableFrom table (now (l .entry))) code ⌝ }
+{
+    let row = l[table + code];
+    [row[0], row[1], row[2]]
+}
+
+// The rows for the next start put anew.
+pub(crate) fn put_next(l: &mut Lane, table: Table)
+    ensures { λ r. ⌜ figuresIn (now (l .exit)) ≡ figuresIn (now (l .entry)) ⌝ }
+    ensures { λ r. ⌜ tablesIn (now (l .exit)) ≡ record { inForce = tablesIn (now (l .entry)) .inForce; next = map surfaceIn table } ⌝ }
+    ensures { λ r. ⌜ recordsIn (now (l .exit)) ≡ recordsIn (now (l .entry)) ⌝ }
+{
+    sized(l);
+    let mut code: usize = 0;
+    while code < SURFACES {
+        let row = table[code];
+        l[NEXT + code] = [row[0], row[1], row[2], 0, 0, 0, 0, 0];
+        code += 1;
+    }
+}
+
+// The rows for the next start put in force.
+pub(crate) fn put_in_force(l: &mut Lane)
+    ensures { λ r. ⌜ figuresIn (now (l .exit)) ≡ figuresIn (now (l .entry)) ⌝ }
+    ensures { λ r. ⌜ tablesIn (now (l .exit)) ≡ record { inForce = tablesIn (now (l .entry)) .next; next = tablesIn (now (l .entry)) .next } ⌝ }
+    ensures { λ r. ⌜ recordsIn (now (l .exit)) ≡ recordsIn (now (l .entry)) ⌝ }
+{
+    sized(l);
+    let mut code: usize = 0;
+    while code < SURFACES {
+        l[IN_FORCE + code] = l[NEXT + code];
+        code += 1;
+    }
 }
 
 // The record of no carrier.
@@ -114,7 +187,7 @@ pub(crate) fn carrier_at(l: &Lane, place: usize) -> Carrier
 // A record put at a place; the free words of its row stay, which takes no instruction.
 pub(crate) fn put_carrier(l: &mut Lane, place: usize, c: Carrier)
     requires { ⌜ place < 64 ⌝ }
-    ensures { λ r. ⌜ figuresIn (now (l .exit)) ≡ figuresIn (now (l .entry)) ⌝ }
+    ensures { λ r. ⌜ (figuresIn (now (l .exit)) ≡ figuresIn (now (l .entry))) × (tablesIn (now (l .exit)) ≡ tablesIn (now (l .entry))) ⌝ }
     ensures { λ r. ⌜ recordsIn (now (l .exit)) ≡ set (recordsIn (now (l .entry))) place c ⌝ }
 {
     let row = l[FIRST + place];
@@ -133,7 +206,7 @@ pub(crate) fn put_carrier(l: &mut Lane, place: usize, c: Carrier)
 // The record at one place copied to another.
 pub(crate) fn copy_record(l: &mut Lane, from: usize, to: usize)
     requires { ⌜ (from < 64) × (to < 64) ⌝ }
-    ensures { λ r. ⌜ figuresIn (now (l .exit)) ≡ figuresIn (now (l .entry)) ⌝ }
+    ensures { λ r. ⌜ (figuresIn (now (l .exit)) ≡ figuresIn (now (l .entry))) × (tablesIn (now (l .exit)) ≡ tablesIn (now (l .entry))) ⌝ }
     ensures { λ r. ⌜ recordsIn (now (l .exit)) ≡ set (recordsIn (now (l .entry))) to (getD (recordsIn (now (l .entry))) from none) ⌝ }
 {
     let c = carrier_at(l, from);
@@ -143,7 +216,7 @@ pub(crate) fn copy_record(l: &mut Lane, from: usize, to: usize)
 // The record at one place put at another with a position and a speed of its own. The number is read from its row: held by the caller it costs more.
 pub(crate) fn move_record(l: &mut Lane, from: usize, to: usize, position: u64, speed: u64)
     requires { ⌜ (from < 64) × (to < 64) ⌝ }
-    ensures { λ r. ⌜ figuresIn (now (l .exit)) ≡ figuresIn (now (l .entry)) ⌝ }
+    ensures { λ r. ⌜ (figuresIn (now (l .exit)) ≡ figuresIn (now (l .entry))) × (tablesIn (now (l .exit)) ≡ tablesIn (now (l .entry))) ⌝ }
     ensures { λ r. ⌜ recordsIn (now (l .exit)) ≡ set (recordsIn (now (l .entry))) to (record { number = getD (recordsIn (now (l .entry))) from none .number; position = position; speed = speed }) ⌝ }
 {
     let number = l[FIRST + from][0];

@@ -1,4 +1,4 @@
-// The lane's calls: start, enter, leave, cycle, read, lane text. A lane is lent and changed in place. `no` is 0 where a call is accepted, else
+// The lane's calls: load, start, enter, leave, cycle, read, lane text. A lane is lent and changed in place. `no` is 0 where a call is accepted, else
 // the number of its refusal, with every value zero and every word of the lane as it was.
 ghost use mathlib.Core.Path.{_≡_};
 ghost use mathlib.Core.Bool.{false};
@@ -6,7 +6,7 @@ ghost use mathlib.Core.List.{[]};
 ghost use lib.Ieee.Exact.{HasValue};
 ghost use Rattle.lane.specs.Layout.{stateOf, emptyWords};
 ghost use Rattle.lane.specs.Calls.{namedCarrier};
-ghost use Rattle.lane.specs.Call.{start-call, enter-call, leave-call, cycle-call, read-call, text-call, bare, entered, cycled, readOut, listed, Gives};
+ghost use Rattle.lane.specs.Call.{load-call, start-call, enter-call, leave-call, cycle-call, read-call, text-call, bare, entered, cycled, readOut, listed, Gives};
 ghost use Rattle.lane.specs.Given.{GivesWith};
 
 mod given;
@@ -16,12 +16,18 @@ mod motion;
 mod places;
 mod rows;
 mod rules;
+mod table;
 
 use wish::Reading;
 use wish::Wish;
 
 // Document 01's limits.
 pub const LAST_SURFACE: u64 = 7;
+
+// Eight surface codes, each with a row of rates up to the highest.
+pub const SURFACES: usize = 8;
+
+pub const HIGHEST_RATE: u64 = 255;
 
 pub const FARTHEST_END: u64 = 2147483648;
 
@@ -49,6 +55,9 @@ pub const ROWS: usize = 89;
 pub const ROW_WORDS: usize = 8;
 
 pub type Lane = [[u64; ROW_WORDS]; ROWS];
+
+// A terminal's surface rows: guaranteed braking, hardest braking and most acceleration of each code.
+pub type Table = [[u64; 3]; SURFACES];
 
 #[repr(C)]
 pub struct Carrier {
@@ -104,20 +113,34 @@ pub struct ReadOut {
     pub reading: Reading,
 }
 
-// An empty lane that was never started.
+// An empty lane that was never started, with the house rows.
 pub fn empty(l: &mut Lane)
     ensures { λ r. ⌜ now (l .exit) ≡ emptyWords ⌝ }
 {
-    *l = [[0; ROW_WORDS]; ROWS];
+    layout::clear(l);
+}
+
+// Surface rows as text, for the next start.
+pub fn load(l: &mut Lane, text: &[u8]) -> u32
+    ensures { λ r. ⌜ Gives (load-call (now (text .entry))) (now (l .entry)) (bare r []) (now (l .exit)) ⌝ }
+{
+    let table = table::read(text);
+    let no = rules::load_refusal(l, rows::unsound(table));
+    if no != 0 {
+        return no;
+    }
+    layout::put_next(l, table);
+    0
 }
 
 pub fn start(l: &mut Lane, road: Road, first: u64) -> u32
     ensures { λ r. ⌜ Gives (start-call road first) (now (l .entry)) (bare r []) (now (l .exit)) ⌝ }
 {
-    let no = rules::road_refusal(road);
+    let no = rules::start_refusal(l, road);
     if no != 0 {
         return no;
     }
+    layout::put_in_force(l);
     layout::put_figures(
         l,
         layout::Figures {

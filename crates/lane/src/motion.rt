@@ -6,8 +6,7 @@ ghost use lib.IntN.{pos, _+ℤ_};
 ghost use lib.ListN.{length, getD, take, set};
 ghost use Rattle.headway.specs.Motion.{speedAfter};
 ghost use Rattle.wish.specs.Units.{unitsOf};
-ghost use Rattle.lane.specs.Surface.{rowIn};
-ghost use Rattle.lane.specs.Layout.{figuresIn, recordsIn, stateOf};
+ghost use Rattle.lane.specs.Layout.{figuresIn, tablesIn, recordsIn, stateOf};
 ghost use Rattle.lane.specs.Safety.{nobody, leader};
 ghost use Rattle.lane.specs.Rules.{roadNo, pastEnd, faulty};
 ghost use Rattle.lane.specs.Wishes.{isOutside, unitsIn, wishedUnits, anyOutside, stands, drive, drives, moved, allMoved, bit, replacedIn, wordOf, countOf, remaining};
@@ -166,7 +165,7 @@ pub(crate) struct Left {
 // The carrier of a place, as it has moved, put behind the `left` ones that are left, unless it is gone; how many are left then.
 fn keep(l: &mut Lane, road: Road, from: usize, left: usize, c: Carrier) -> usize
     requires { ⌜ (from < 64) × ((left < 64) × (getD (recordsIn (now l)) from none .number ≡ c .number)) ⌝ }
-    ensures { λ r. ⌜ figuresIn (now (l .exit)) ≡ figuresIn (now (l .entry)) ⌝ }
+    ensures { λ r. ⌜ (figuresIn (now (l .exit)) ≡ figuresIn (now (l .entry))) × (tablesIn (now (l .exit)) ≡ tablesIn (now (l .entry))) ⌝ }
     ensures { λ r. ⌜ recordsIn (now (l .exit)) ≡ cond (pastEnd road c) (recordsIn (now (l .entry))) (set (recordsIn (now (l .entry))) left c) ⌝ }
     ensures { λ r. ⌜ r ≡ cond (pastEnd road c) left (left + 1) ⌝ }
 {
@@ -178,17 +177,16 @@ fn keep(l: &mut Lane, road: Road, from: usize, left: usize, c: Carrier) -> usize
 }
 
 // All carriers driven: a record is read before the one that takes its place is put.
-fn drive_all(l: &mut Lane, road: Road, count: usize, units: &[i32; 64]) -> Left
-    requires { ⌜ (count ≤ 64) × ((roadNo road ≡ 0) × (faulty road (take count (recordsIn (now l))) ≡ false)) ⌝ }
-    requires { ⌜ length (recordsIn (now l)) ≡ 64 ⌝ }
-    ensures { λ r. ⌜ r .word ≡ wordOf (replacedIn (drives (rowIn road) (road .limit) nobody (take count (recordsIn (now (l .entry)))) (take count (now (units .entry))))) ⌝ }
-    ensures { λ r. ⌜ take (r .count) (recordsIn (now (l .exit))) ≡ remaining road (allMoved (take count (recordsIn (now (l .entry)))) (drives (rowIn road) (road .limit) nobody (take count (recordsIn (now (l .entry)))) (take count (now (units .entry))))) ⌝ }
-    ensures { λ r. ⌜ (r .count ≤ count) × ((figuresIn (now (l .exit)) ≡ figuresIn (now (l .entry))) × (length (recordsIn (now (l .exit))) ≡ 64)) ⌝ }
+fn drive_all(l: &mut Lane, road: Road, row: Row, count: usize, units: &[i32; 64]) -> Left
+    requires { ⌜ (count ≤ 64) × ((roadNo road ≡ 0) × (faulty row road (take count (recordsIn (now l))) ≡ false)) ⌝ }
+    requires { ⌜ (length (recordsIn (now l)) ≡ 64) × ((1 ≤ row .guaranteed) × (1 ≤ row .hardest)) ⌝ }
+    ensures { λ r. ⌜ r .word ≡ wordOf (replacedIn (drives row (road .limit) nobody (take count (recordsIn (now (l .entry)))) (take count (now (units .entry))))) ⌝ }
+    ensures { λ r. ⌜ take (r .count) (recordsIn (now (l .exit))) ≡ remaining road (allMoved (take count (recordsIn (now (l .entry)))) (drives row (road .limit) nobody (take count (recordsIn (now (l .entry)))) (take count (now (units .entry))))) ⌝ }
+    ensures { λ r. ⌜ (r .count ≤ count) × (((figuresIn (now (l .exit)) ≡ figuresIn (now (l .entry))) × (tablesIn (now (l .exit)) ≡ tablesIn (now (l .entry)))) × (length (recordsIn (now (l .exit))) ≡ 64)) ⌝ }
 {
     sized(units);
     // Nobody is ahead of the foremost carrier, so that any record will do at first.
     let mut ahead = layout::no_carrier();
-    let row = rows::row_in(road);
     let mut left: usize = 0;
     let mut word: u64 = 0;
     let mut i: usize = 0;
@@ -224,7 +222,9 @@ pub(crate) fn run(l: &mut Lane, count: usize, units: &[i32; 64]) -> Cycled
     ensures { λ r. ⌜ stateOf (now (l .exit)) ≡ atCycle (stateOf (now (l .entry)) .cycle + 1) (withCarriers (stateOf (now (l .entry))) (leftAfter (stateOf (now (l .entry))) (drivesWith (stateOf (now (l .entry))) (take count (now (units .entry)))))) ⌝ }
 {
     let f = layout::figures_of(l);
-    let left = drive_all(l, f.road, count, units);
+    let road = f.road;
+    let row = rows::row_in(l, road);
+    let left = drive_all(l, road, row, count, units);
     layout::put_count(l, f.cycle + 1, left.count);
     Cycled {
         no: 0,

@@ -1,33 +1,69 @@
 // The surface rows: guaranteed braking, hardest braking, most acceleration.
 ghost use mathlib.Core.Path.{_≡_};
-ghost use Rattle.lane.specs.Surface.{row as column, rowIn};
+ghost use mathlib.Core.Bool.{false};
+ghost use mathlib.Core.List.{map};
+ghost use Prim.Native.Nat.{_≤_};
+ghost use Rattle.lane.specs.Surface.{rowIn, soundRow, unsound as unsoundRows};
+ghost use Rattle.lane.specs.Layout.{surfaceIn, tableFrom, tablesIn};
+ghost use Rattle.lane.specs.Rules.{roadNo};
+use crate::HIGHEST_RATE;
+use crate::Lane;
 use crate::Road;
 use crate::Row;
+use crate::SURFACES;
+use crate::Table;
+use crate::layout;
+use crate::rules;
 
-fn row(guaranteed: u32, hardest: u32, most: u32) -> Row
-    ensures { λ r. ⌜ r ≡ column guaranteed hardest most ⌝ }
+fn sound(row: [u64; 3]) -> bool
+    ensures { λ r. ⌜ r ≡ soundRow (surfaceIn row) ⌝ }
 {
-    Row {
-        guaranteed,
-        hardest,
-        most,
-    }
+    (1 <= row[0])
+        & (row[0] <= row[1])
+        & (row[1] <= HIGHEST_RATE)
+        & (1 <= row[2])
+        & (row[2] <= HIGHEST_RATE)
 }
 
-// The row in force, by the house values code by code; zeros for a code above the last. A `match`, since an array would be put on the stack at each call.
-pub(crate) fn row_in(road: Road) -> Row
-    ensures { λ r. ⌜ r ≡ rowIn road ⌝ }
+// A row of a table that was read is unsound.
+pub(crate) fn unsound(table: Table) -> bool
+    ensures { λ r. ⌜ r ≡ unsoundRows (map surfaceIn table) ⌝ }
 {
-    let code = road.surface;
-    match code {
-        0 => row(64, 128, 32),
-        1 => row(56, 120, 32),
-        2 => row(48, 112, 24),
-        3 => row(40, 96, 24),
-        4 => row(32, 96, 16),
-        5 => row(16, 64, 12),
-        6 => row(6, 48, 8),
-        7 => row(1, 255, 1),
-        _ => row(0, 0, 0),
+    let mut code: usize = 0;
+    while code < SURFACES {
+        let row = table[code];
+        if !sound(row) {
+            return true;
+        }
+        code += 1;
+    }
+    false
+}
+
+// A row of a table of the lane is unsound.
+pub(crate) fn unsound_in(l: &Lane, table: usize) -> bool
+    requires { ⌜ table ≤ 9 ⌝ }
+    ensures { λ r. ⌜ r ≡ unsoundRows (tableFrom table (now (l .entry))) ⌝ }
+{
+    let mut code: usize = 0;
+    while code < SURFACES {
+        if !sound(layout::surface_at(l, table, code)) {
+            return true;
+        }
+        code += 1;
+    }
+    false
+}
+
+// The row in force, of which 32 bits hold every number.
+pub(crate) fn row_in(l: &Lane, road: Road) -> Row
+    requires { ⌜ (roadNo road ≡ 0) × (unsoundRows (tableFrom 1 (now l)) ≡ false) ⌝ }
+    ensures { λ r. ⌜ r ≡ rowIn (tablesIn (now (l .entry))) road ⌝ }
+{
+    let row = layout::surface_at(l, layout::IN_FORCE, road.surface as usize);
+    Row {
+        guaranteed: rules::narrow(row[0]),
+        hardest: rules::narrow(row[1]),
+        most: rules::narrow(row[2]),
     }
 }

@@ -1,15 +1,16 @@
 // The checks of each call, in the document's order, and the rules of a lane behind check 21.
 ghost use mathlib.Core.Path.{_≡_};
 ghost use mathlib.Core.Bool.{false};
+ghost use mathlib.Core.List.{List};
 ghost use Prim.Native.Nat.{ℕ, _+_, _%_, _≤_, _<_};
 ghost use lib.ListN.{length, getD, take};
 ghost use lib.Seq.{slice};
 ghost use Rattle.headway.specs.Totals.{restOf};
-ghost use Rattle.lane.specs.Surface.{rowIn};
 ghost use Rattle.lane.specs.Layout.{recordsIn, stateOf};
 ghost use Rattle.lane.specs.Safety.{leader, guaranteedRate, reachTo, safeWith, anyOf, numbered};
 ghost use Rattle.lane.specs.Rules.{badNumber, roadNo, unlawful as unlawfulIn, pastEnd, faulty, broken, newcomerNo};
-ghost use Rattle.lane.specs.Calls.{none, ifAccepted, walk, gapNo, placeNo, enterNo, namedNo, placeOf, readyNo};
+ghost use Rattle.lane.specs.Table.{tableIn, badTable, loadNo};
+ghost use Rattle.lane.specs.Calls.{none, ifAccepted, startNo, walk, gapNo, placeNo, enterNo, namedNo, placeOf, readyNo};
 use crate::Carrier;
 use crate::FARTHEST_END;
 use crate::FASTEST;
@@ -32,8 +33,8 @@ pub(crate) fn narrow(x: u64) -> u32
     x as u32
 }
 
-// The checks of start.
-pub(crate) fn road_refusal(road: Road) -> u32
+// The checks of a road.
+fn road_refusal(road: Road) -> u32
     ensures { λ r. ⌜ r ≡ roadNo road ⌝ }
 {
     if LAST_SURFACE < road.surface {
@@ -46,6 +47,16 @@ pub(crate) fn road_refusal(road: Road) -> u32
         return 3;
     }
     2
+}
+
+// The checks of start.
+pub(crate) fn start_refusal(l: &Lane, road: Road) -> u32
+    ensures { λ r. ⌜ r ≡ startNo (stateOf (now (l .entry))) road ⌝ }
+{
+    if rows::unsound_in(l, layout::NEXT) {
+        return 21;
+    }
+    road_refusal(road)
 }
 
 fn bad_number(number: u64) -> bool
@@ -175,14 +186,14 @@ fn linked(l: &Lane, next: &[u8; 64], first: usize, count: usize, number: u64) ->
     false
 }
 
-// The carriers break a rule, looked at from the back. A number is searched for among those alike in their low six bits: `first` has the place of the
+// The carriers break a rule, by the row in force, looked at from the back. A number is searched for among those alike in their low six bits: `first` has the place of the
 // first of each sort so far, and `next` links it to the others.
-fn any_fault(l: &Lane, road: Road, count: usize) -> bool
+fn any_fault(l: &Lane, road: Road, row: Row, count: usize) -> bool
     requires { ⌜ (count ≤ 64) × ((length (recordsIn (now l)) ≡ 64) × (roadNo road ≡ 0)) ⌝ }
-    ensures { λ r. ⌜ r ≡ faulty road (take count (recordsIn (now (l .entry)))) ⌝ }
+    requires { ⌜ (1 ≤ row .guaranteed) × (1 ≤ row .hardest) ⌝ }
+    ensures { λ r. ⌜ r ≡ faulty row road (take count (recordsIn (now (l .entry)))) ⌝ }
 {
     let mut behind = layout::no_carrier();
-    let row = rows::row_in(road);
     let mut first: [u8; 64] = [64; 64];
     let mut next: [u8; 64] = [64; 64];
     let mut stop: u64 = 0;
@@ -223,10 +234,13 @@ pub(crate) fn breaks_rule(l: &Lane) -> bool
     if road_refusal(road) != 0 {
         return true;
     }
+    if rows::unsound_in(l, layout::IN_FORCE) | rows::unsound_in(l, layout::NEXT) {
+        return true;
+    }
     if MOST_CARRIERS < f.count {
         return true;
     }
-    any_fault(l, road, f.count)
+    any_fault(l, road, rows::row_in(l, road), f.count)
 }
 
 // A check's number, 0 where all are passed, and the place that the call is about.
@@ -241,13 +255,13 @@ fn refused(no: u32) -> Checked
     Checked { no, place: 0 }
 }
 
-// The carriers next to a place, where none breaks a rule, nor the newcomer by itself: 25 and 26.
-fn gap_refusal(l: &Lane, road: Road, count: usize, place: usize, c: Carrier) -> u32
+// The carriers next to a place: 25 and 26.
+fn gap_refusal(l: &Lane, row: Row, count: usize, place: usize, c: Carrier) -> u32
     requires { ⌜ (place ≤ count) × ((count ≤ 64) × (length (recordsIn (now l)) ≡ 64)) ⌝ }
-    requires { ⌜ (roadNo road ≡ 0) × ((newcomerNo road c ≡ 0) × (faulty road (take count (recordsIn (now l))) ≡ false)) ⌝ }
-    ensures { λ r. ⌜ r ≡ gapNo (rowIn road) place c (take count (recordsIn (now (l .entry)))) ⌝ }
+    requires { ⌜ ((1 ≤ row .guaranteed) × (1 ≤ row .hardest)) × ((c .position < 4294967296) × (c .speed < 4294967296)) ⌝ }
+    requires { ⌜ ((i : ℕ) → i < count → (getD (recordsIn (now l)) i none .position < 4294967296) × (getD (recordsIn (now l)) i none .speed < 4294967296)) ⌝ }
+    ensures { λ r. ⌜ r ≡ gapNo row place c (take count (recordsIn (now (l .entry)))) ⌝ }
 {
-    let row = rows::row_in(road);
     if 0 < place {
         if !safe(row, layout::carrier_at(l, place - 1), c) {
             return 25;
@@ -276,7 +290,7 @@ fn find_place(l: &Lane, c: Carrier) -> Checked
         return refused(23);
     }
     let place = places::entry_place(l, count, c.position);
-    let no = gap_refusal(l, road, count, place, c);
+    let no = gap_refusal(l, rows::row_in(l, road), count, place, c);
     if no != 0 {
         return refused(no);
     }
@@ -315,6 +329,23 @@ pub(crate) fn check_named(l: &Lane, number: u64) -> Checked
         return refused(24);
     }
     Checked { no: 0, place }
+}
+
+// The checks of load, given whether its table text is bad. A lane never started counts as empty and sound.
+pub(crate) fn load_refusal(l: &Lane, bad: bool) -> u32
+    ensures { λ r. ⌜ ((text : List ℕ) → badTable (tableIn text) ≡ bad → r ≡ loadNo (stateOf (now (l .entry))) text) ⌝ }
+{
+    let f = layout::figures_of(l);
+    if f.started & breaks_rule(l) {
+        return 21;
+    }
+    if bad {
+        return 31;
+    }
+    if f.started & (0 < f.count) {
+        return 32;
+    }
+    0
 }
 
 // The checks of cycle before the wishes are looked at.

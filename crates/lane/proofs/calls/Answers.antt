@@ -1,11 +1,11 @@
 -- What a call gives by the two cases that it ends in, refused or accepted, and what is known of the lane where it is accepted.
 use mathlib.Core.Path.{_≡_, refl, sym, ap, _∙_}
-use mathlib.Core.Bool.{Bool, true, false, not, cond}
+use mathlib.Core.Bool.{Bool, true, false, not, _&&_, cond}
 use mathlib.Core.List.{List}
 use Prim.Native.Nat.{ℕ, _≤_, _<_}
 use native.Mathlib.Omega.{arith}
 use borrow.Author.Tests.{ne-eqb, eqb-true, eqb-false, ltb-true, not-false}
-use lib.Dec.{eqb, leb}
+use lib.Dec.{eqb, leb, ltb}
 use lib.ListN.{length, take, length-take}
 use Rattle.wish.specs.declared.Wish.{Wish}
 use Rattle.lane.specs.declared.Carrier.{Carrier}
@@ -16,6 +16,7 @@ use Rattle.lane.specs.Layout.{Words, stateOf, recordsIn}
 use Rattle.lane.specs.Safety.{anyOf, numbered}
 use Rattle.lane.specs.Rules.{badNumber, tooFast, unlawful, pastEnd, newcomerNo, broken}
 use Rattle.lane.specs.Wishes.{anyOutside}
+use Rattle.lane.specs.Table.{tableIn, badTable, loadNo}
 use Rattle.lane.specs.Calls.{ifAccepted, walk, gapNo, placeNo, enterNo, namedNo, placeOf, readyNo, cycleNo}
 use Rattle.lane.specs.Call.{Call, start-call, enter-call, leave-call, cycle-call, read-call, text-call, Answer, callNo, acceptedState, lentTo, bare, acceptedAnswer, callAnswer, callState, Gives}
 use Rattle.lane.proofs.lists.Passed.{passed}
@@ -89,9 +90,22 @@ gives-accepted x l m e f =
       refused = λ p. absurd (omega arith);
     }
 
--- ---- what an accepted call tells; every call but start looks at the lane first
+-- ---- what an accepted call tells; every call but start and load looks at the whole lane first
 pub accepted-sound : (s : State) (later : ℕ) → cond (broken s) 21 later ≡ 0 → Sound s
 accepted-sound s later e = sound s (passed (broken s) 20 later e .0)
+
+-- a load: the lane is never started, or sound and empty
+pub record Loads (s : State) (text : List ℕ) : Type 0 where
+  pub lawful : s .started && broken s ≡ false
+  pub good : badTable (tableIn text) ≡ false
+  pub free : s .started && ltb 0 (s .count) ≡ false
+
+pub load-tells : (s : State) (text : List ℕ) → loadNo s text ≡ 0 → Loads s text
+unfolding loadNo
+load-tells s text e =
+    let first = passed (s .started && broken s) 20 _ e in
+    let second = passed (badTable (tableIn text)) 30 _ (first .1) in
+    record { lawful = first .0; good = second .0; free = passed (s .started && ltb 0 (s .count)) 31 0 (second .1) .0 }
 
 -- a lane has no more carriers than it counts
 pub counted-most : (l : Words) → length (stateOf l .carriers) ≤ stateOf l .count
@@ -104,7 +118,7 @@ pub record Enters (s : State) (c : Carrier) : Type 0 where
   pub before-end : pastEnd (s .road) c ≡ false
   pub room : s .count < 64
   pub new : anyOf (numbered (c .number)) (s .carriers) ≡ false
-  pub gap : gapNo (rowIn (s .road)) (walk (c .position) (s .carriers)) c (s .carriers) ≡ 0
+  pub gap : gapNo (rowIn (s .tables) (s .road)) (walk (c .position) (s .carriers)) c (s .carriers) ≡ 0
 
 pub enter-tells : (s : State) (c : Carrier) → enterNo s c ≡ 0 → Enters s c
 unfolding enterNo newcomerNo placeNo unlawful pastEnd

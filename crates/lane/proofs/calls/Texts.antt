@@ -17,6 +17,7 @@ use Rattle.lane.specs.declared.Road.{Road}
 use Rattle.lane.specs.declared.layout.Figures.{Figures}
 use Rattle.lane.specs.Limits.{longestText}
 use Rattle.lane.specs.State.{State}
+use Rattle.lane.specs.Surface.{Tables}
 use Rattle.lane.specs.Layout.{Words, stateWith, stateOf}
 use Rattle.lane.specs.Safety.{anyOf}
 use Rattle.lane.specs.Rules.{unlawful, pastEnd, broken}
@@ -105,8 +106,8 @@ pub record Writing (carriers : List Carrier) (count at₀ : ℕ) (out₀ out : L
   pub rest : written at (carriersText (slice i count carriers)) out ≡ written at₀ (carriersText (take count carriers)) out₀
 
 -- the first line is put
-module _ (f : Figures) (records : List Carrier) (buffer : List ℕ) {at₀ : ℕ} {out₀ : List ℕ}
-    (room : length (laneText (stateWith f records)) ≤ length buffer)
+module _ (f : Figures) (tables : Tables) (records : List Carrier) (buffer : List ℕ) {at₀ : ℕ} {out₀ : List ℕ}
+    (room : length (laneText (stateWith f tables records)) ≤ length buffer)
     (p : Put 0 (line (ascii "cars=") (decimal (f .count))) buffer out₀ at₀) where
   abbrev header : List ℕ
   header = line (ascii "cars=") (decimal (f .count))
@@ -127,7 +128,7 @@ module _ (f : Figures) (records : List Carrier) (buffer : List ℕ) {at₀ : ℕ
       record { same = refl; ends = refl; room = omega (arith, first-room, first-place); rest = refl }
 
   pub writing-end : {out : List ℕ} {at i : ℕ} → Writing records (f .count) at₀ out₀ out at i → f .count ≤ i
-      → (out ≡ written 0 (laneText (stateWith f records)) buffer) × (at ≡ length (laneText (stateWith f records)))
+      → (out ≡ written 0 (laneText (stateWith f tables records)) buffer) × (at ≡ length (laneText (stateWith f tables records)))
   unfolding laneText
   writing-end {out} {at} {i} w h =
       let past = carriers-past records i (f .count) h in (

@@ -1,7 +1,8 @@
 -- The checks of the calls over the figures as the code holds them, and a check's number with the place beside it: 0 where the call is
 -- refused.
 use mathlib.Core.Path.{_≡_, refl}
-use mathlib.Core.Bool.{not, _||_, cond}
+use mathlib.Core.Bool.{not, _&&_, _||_, cond}
+use mathlib.Core.List.{List}
 use Prim.Native.Nat.{ℕ}
 use borrow.Author.Tests.{ne-eqb}
 use lib.Dec.{eqb, ltb}
@@ -9,25 +10,32 @@ use lib.ListN.{take}
 use Rattle.lane.specs.declared.Carrier.{Carrier}
 use Rattle.lane.specs.declared.layout.Figures.{Figures}
 use Rattle.lane.specs.declared.rules.Checked.{Checked}
-use Rattle.lane.specs.Surface.{rowIn}
-use Rattle.lane.specs.Layout.{Words, figuresIn, recordsIn, stateOf}
+use Rattle.lane.specs.Surface.{unsound, rowIn}
+use Rattle.lane.specs.Layout.{Words, figuresIn, tableFrom, tablesIn, recordsIn, stateOf}
 use Rattle.lane.specs.Safety.{anyOf, numbered}
 use Rattle.lane.specs.Rules.{badNumber, roadNo, faulty, broken}
+use Rattle.lane.specs.Table.{tableIn, badTable, loadNo}
 use Rattle.lane.specs.Calls.{ifAccepted, walk, gapNo, placeNo, namedNo, readyNo}
 
 module _ (l : Words) (f : Figures) (e : f ≡ figuresIn l) where
-  pub broken-checks : broken (stateOf l) ≡ not (f .started) || not (eqb (roadNo (f .road)) 0) || ltb 64 (f .count) || faulty (f .road) (take (f .count) (recordsIn l))
+  pub broken-checks : broken (stateOf l)
+      ≡ not (f .started) || not (eqb (roadNo (f .road)) 0) || unsound (tableFrom 1 l) || unsound (tableFrom 9 l) || ltb 64 (f .count)
+      || faulty (rowIn (tablesIn l) (f .road)) (f .road) (take (f .count) (recordsIn l))
   unfolding broken
   broken-checks = rw e refl
 
   pub place-checks : (c : Carrier) → let cs = take (f .count) (recordsIn l) in
-      placeNo (stateOf l) c ≡ cond (eqb (f .count) 64) 22 (cond (anyOf (numbered (c .number)) cs) 23 (gapNo (rowIn (f .road)) (walk (c .position) cs) c cs))
+      placeNo (stateOf l) c ≡ cond (eqb (f .count) 64) 22 (cond (anyOf (numbered (c .number)) cs) 23 (gapNo (rowIn (tablesIn l) (f .road)) (walk (c .position) cs) c cs))
   unfolding placeNo
   place-checks c = rw e refl
 
   pub named-checks : (number : ℕ) → namedNo (stateOf l) number ≡ cond (broken (stateOf l)) 21 (cond (badNumber number) 4 (cond (anyOf (numbered number) (take (f .count) (recordsIn l))) 0 24))
   unfolding namedNo
   named-checks number = rw e refl
+
+  pub load-checks : (text : List ℕ) → loadNo (stateOf l) text ≡ cond (f .started && broken (stateOf l)) 21 (cond (badTable (tableIn text)) 31 (cond (f .started && ltb 0 (f .count)) 32 0))
+  unfolding loadNo
+  load-checks text = rw e refl
 
   pub ready-checks : (count : ℕ) → readyNo (stateOf l) count ≡ cond (broken (stateOf l)) 21 (cond (not (eqb count (f .count))) 27 (cond (eqb (f .cycle) 18446744073709551615) 28 0))
   unfolding readyNo

@@ -14,7 +14,6 @@ use Rattle.headway.specs.Totals.{restOf}
 use Rattle.lane.specs.declared.Carrier.{Carrier}
 use Rattle.lane.specs.declared.Road.{Road}
 use Rattle.lane.specs.declared.Row.{Row}
-use Rattle.lane.specs.Surface.{rowIn}
 use Rattle.lane.specs.Safety.{Ahead, leader, guaranteedRate, safeWith, safeFrom, laneSafe, anyOf, numbered, repeats}
 use Rattle.lane.specs.Rules.{unlawful, pastEnd, faulty}
 use Rattle.lane.specs.Calls.{none}
@@ -50,23 +49,23 @@ module _ (l : List Carrier) (count : ℕ) where
   linked-none next p h k n e = absurd (omega arith)
 
 -- ---- carriers that break a rule
-module _ (road : Road) where
+module _ (row : Row) (road : Road) where
   -- by itself, or by the gap to the carrier behind: what is looked at with no search
   abbrev pub fault : Carrier → List Carrier → Bool
-  fault c cs = unlawful road c || pastEnd road c || not (safeFrom (rowIn road) (leader c) cs)
+  fault c cs = unlawful road c || pastEnd road c || not (safeFrom row (leader c) cs)
 
-  pub faulty-none : faulty road [] ≡ false
+  pub faulty-none : faulty row road [] ≡ false
   unfolding faulty anyOf repeats laneSafe safeFrom
   faulty-none = refl
 
   -- what a carrier adds to faultless ones behind it
-  fault-more : (c : Carrier) (cs : List Carrier) → faulty road cs ≡ false → faulty road (c ∷ cs) ≡ fault c cs || anyOf (numbered (c .number)) cs
+  fault-more : (c : Carrier) (cs : List Carrier) → faulty row road cs ≡ false → faulty row road (c ∷ cs) ≡ fault c cs || anyOf (numbered (c .number)) cs
   unfolding faulty anyOf repeats laneSafe safeFrom safeWith
   fault-more c cs e =
       let alone = anyOf (λ k. unlawful road k || pastEnd road k) cs in
-      let t = neither (alone || repeats cs) (not (laneSafe (rowIn road) cs)) e in
+      let t = neither (alone || repeats cs) (not (laneSafe row cs)) e in
       let u = neither alone (repeats cs) (t .0) in
-      rw (u .0, u .1) (turned (unlawful road c || pastEnd road c) (anyOf (numbered (c .number)) cs) (not (safeFrom (rowIn road) (leader c) cs)))
+      rw (u .0, u .1) (turned (unlawful road c || pastEnd road c) (anyOf (numbered (c .number)) cs) (not (safeFrom row (leader c) cs)))
     where
       turned : (a n s : Bool) → (a || false) || (n || false) || s ≡ a || s || n
       turned true n s = refl
@@ -76,7 +75,7 @@ module _ (road : Road) where
       turned false false false = refl
 
   -- a fault behind stays one
-  fault-stays : (c : Carrier) (cs : List Carrier) → faulty road cs ≡ true → faulty road (c ∷ cs) ≡ true
+  fault-stays : (c : Carrier) (cs : List Carrier) → faulty row road cs ≡ true → faulty row road (c ∷ cs) ≡ true
   unfolding faulty anyOf repeats laneSafe safeFrom safeWith
   fault-stays c [] e = absurd (true≢false (sym e))
   fault-stays c (b ∷ cs) e =
@@ -85,8 +84,8 @@ module _ (road : Road) where
       (anyOf (λ k. unlawful road k || pastEnd road k) (b ∷ cs))
       (anyOf (numbered (c .number)) (b ∷ cs))
       (repeats (b ∷ cs))
-      (safeWith (rowIn road) (leader c) b)
-      (safeFrom (rowIn road) (leader b) cs)
+      (safeWith row (leader c) b)
+      (safeFrom row (leader b) cs)
       e
     where
       by-cases : (a x n y s z : Bool) → x || y || not z ≡ true → (a || x) || (n || y) || not (s && z) ≡ true
@@ -99,16 +98,16 @@ module _ (road : Road) where
 
   module _ (l : List Carrier) (count : ℕ) (k : count ≤ length l) where
     -- the gap to the carrier at a place, where those from there on are faultless
-    pub gap-next : (ahead : Ahead) (i : ℕ) → i < count → faulty road (slice i count l) ≡ false
-        → safeFrom (rowIn road) ahead (slice i count l) ≡ safeWith (rowIn road) ahead (getD l i none)
+    pub gap-next : (ahead : Ahead) (i : ℕ) → i < count → faulty row road (slice i count l) ≡ false
+        → safeFrom row ahead (slice i count l) ≡ safeWith row ahead (getD l i none)
     unfolding laneSafe safeFrom safeWith
     gap-next ahead i h e =
         let cs = slice (i + 1) count l in
         let b = getD l i none in
         let at-b = slice-next none l i count h k in
-        let whole : faulty road (b ∷ cs) ≡ false = rw at-b at e in
-        let held : safeFrom (rowIn road) (leader b) cs ≡ true = faultless road (b ∷ cs) whole .safe in
-        rw (at-b, held) (and-true (safeWith (rowIn road) ahead b))
+        let whole : faulty row road (b ∷ cs) ≡ false = rw at-b at e in
+        let held : safeFrom row (leader b) cs ≡ true = faultless row road (b ∷ cs) whole .safe in
+        rw (at-b, held) (and-true (safeWith row ahead b))
       where
         and-true : (s : Bool) → s && true ≡ s
         and-true true = refl
@@ -154,15 +153,15 @@ module _ (road : Road) where
                 rw (here, j, getD-set-same next (i - 1) mark 0 (omega arith), alike) (m n)
             by-place false f = rw (getD-set-other next (i - 1) place mark 0 (eqb-false place (i - 1) f)) (k place (omega (arith, eqb-false place (i - 1) f)) below n e)
 
-      pub fault-next : faulty road (slice i count l) ≡ false
-          → faulty road (slice (i - 1) count l) ≡ fault (getD l (i - 1) none) (slice i count l) || anyOf (numbered (getD l (i - 1) none .number)) (slice i count l)
+      pub fault-next : faulty row road (slice i count l) ≡ false
+          → faulty row road (slice (i - 1) count l) ≡ fault (getD l (i - 1) none) (slice i count l) || anyOf (numbered (getD l (i - 1) none .number)) (slice i count l)
       fault-next e = rw from-here (fault-more (getD l (i - 1) none) (slice i count l) e)
 
-      further : faulty road (slice i count l) ≡ true → faulty road (slice (i - 1) count l) ≡ true
+      further : faulty row road (slice i count l) ≡ true → faulty row road (slice (i - 1) count l) ≡ true
       further e = rw from-here (fault-stays (getD l (i - 1) none) (slice i count l) e)
 
     -- a fault past a place is one of the whole
-    pub fault-whole : (i : ℕ) → i ≤ count → faulty road (slice i count l) ≡ true → faulty road (take count l) ≡ true
+    pub fault-whole : (i : ℕ) → i ≤ count → faulty row road (slice i count l) ≡ true → faulty row road (take count l) ≡ true
     fault-whole zero h e = e
     fault-whole (suc i) h e =
         let d : suc i - 1 ≡ i = omega arith in
@@ -178,7 +177,7 @@ pub record Passed (road : Road) (row : Row) (l : List Carrier) (count : ℕ) (fi
   pub sorts : length first ≡ 64
   pub places : length next ≡ 64
   pub within : i ≤ count
-  pub faultless : faulty road (slice i count l) ≡ false
+  pub faultless : faulty row road (slice i count l) ≡ false
   pub met : Met l count first i
   pub linked : Linked l count next i
   pub behind-is : i < count → behind ≡ getD l i none

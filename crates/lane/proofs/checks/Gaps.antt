@@ -8,21 +8,17 @@ use lib.ListN.{getD, take}
 use lib.Seq.{getD-take}
 use Rattle.lane.specs.declared.Carrier.{Carrier}
 use Rattle.lane.specs.declared.Road.{Road}
-use Rattle.lane.specs.declared.Row.{Row}
-use Rattle.lane.specs.Surface.{rowIn}
 use Rattle.lane.specs.Safety.{nobody, leader}
 use Rattle.lane.specs.Calls.{none, aheadOf}
-use Rattle.lane.proofs.checks.Surfaces.{row-brakes}
 use Rattle.lane.proofs.checks.Soundness.{SoundRoad, Fit, fit-narrow}
 
 -- what a function requires of the two
-pub pair-narrow : (road : Road) (row : Row) (ahead c : Carrier) → SoundRoad road → row ≡ rowIn road → Fit road ahead → Fit road c
-    → ((1 ≤ row .guaranteed) × (1 ≤ row .hardest))
-    × ((c .position < 4294967296) × ((c .speed < 4294967296) × ((ahead .position < 4294967296) × (ahead .speed < 4294967296))))
-pair-narrow road row ahead c r e a b =
+pub pair-narrow : (road : Road) (ahead c : Carrier) → SoundRoad road → Fit road ahead → Fit road c
+    → (c .position < 4294967296) × ((c .speed < 4294967296) × ((ahead .position < 4294967296) × (ahead .speed < 4294967296)))
+pair-narrow road ahead c r a b =
     let wide = fit-narrow road c r b in
     let wide-ahead = fit-narrow road ahead r a in
-    (row-brakes row (road .surface) e (r .surface), (wide .position, (wide .speed, (wide-ahead .position, wide-ahead .speed))))
+    (wide .position, (wide .speed, (wide-ahead .position, wide-ahead .speed)))
 
 module _ (l : List Carrier) (count place : ℕ) where
   pub ahead-is : 0 < place → place ≤ count → aheadOf place (take count l) ≡ leader (getD l (place - 1) none)

@@ -10,15 +10,17 @@ use lib.ListN.{length, getD, take}
 use lib.Seq.{slice}
 use Rattle.lane.specs.declared.Carrier.{Carrier}
 use Rattle.lane.specs.declared.Road.{Road}
+use Rattle.lane.specs.declared.Row.{Row}
 use Rattle.lane.specs.declared.layout.Figures.{Figures}
-use Rattle.lane.specs.Surface.{rowIn}
-use Rattle.lane.specs.Layout.{Words, figuresIn, recordsIn, stateWith, stateOf}
+use Rattle.lane.specs.Surface.{unsound, rowIn}
+use Rattle.lane.specs.Layout.{Words, figuresIn, tablesIn, recordsIn, stateWith, stateOf}
 use Rattle.lane.specs.State.{State}
 use Rattle.lane.specs.Safety.{laneSafe, anyOf, repeats}
 use Rattle.lane.specs.Rules.{outsideOf, badNumber, roadNo, tooFast, unlawful, pastEnd, faulty, broken, newcomerNo}
 use Rattle.lane.proofs.lists.Lists.{slice-next}
 use Rattle.lane.proofs.lists.Tests.{neither, none-at, none-of, any-or}
 use Rattle.lane.proofs.lists.Passed.{passed}
+use Rattle.lane.proofs.checks.Surfaces.{SoundRow, sound-at}
 
 -- ---- the road
 pub record SoundRoad (road : Road) : Type 0 where
@@ -95,51 +97,58 @@ pub record Narrow (c : Carrier) : Type 0 where
 pub fit-narrow : (road : Road) (c : Carrier) → SoundRoad road → Fit road c → Narrow c
 fit-narrow road c r h = record { position = omega arith; speed = omega arith; slow = omega arith }
 
--- ---- carriers
-pub record Faultless (road : Road) (cs : List Carrier) : Type 0 where
+-- ---- carriers, by the row in force
+pub record Faultless (r : Row) (road : Road) (cs : List Carrier) : Type 0 where
   pub lawful : anyOf (unlawful road) cs ≡ false
   pub before-end : anyOf (pastEnd road) cs ≡ false
   pub distinct : repeats cs ≡ false
-  pub safe : laneSafe (rowIn road) cs ≡ true
+  pub safe : laneSafe r cs ≡ true
 
-pub faultless : (road : Road) (cs : List Carrier) → faulty road cs ≡ false → Faultless road cs
+pub faultless : (r : Row) (road : Road) (cs : List Carrier) → faulty r road cs ≡ false → Faultless r road cs
 unfolding faulty
-faultless road cs e =
+faultless r road cs e =
     let alone = anyOf (λ c. unlawful road c || pastEnd road c) cs in
-    let t = neither (alone || repeats cs) (not (laneSafe (rowIn road) cs)) e in
+    let t = neither (alone || repeats cs) (not (laneSafe r cs)) e in
     let u = neither alone (repeats cs) (t .0) in
     let v = neither (anyOf (unlawful road) cs) (anyOf (pastEnd road) cs) (rw (any-or (unlawful road) (pastEnd road) cs) at (u .0)) in
     record {
       lawful = v .0;
       before-end = v .1;
       distinct = u .1;
-      safe = not-false (laneSafe (rowIn road) cs) (t .1);
+      safe = not-false (laneSafe r cs) (t .1);
     }
 
-pub faultless-holds : (road : Road) (cs : List Carrier) → Faultless road cs → faulty road cs ≡ false
+pub faultless-holds : (r : Row) (road : Road) (cs : List Carrier) → Faultless r road cs → faulty r road cs ≡ false
 unfolding faulty
-faultless-holds road cs h =
+faultless-holds r road cs h =
     rw (any-or (unlawful road) (pastEnd road) cs, h .lawful, h .before-end, h .distinct, h .safe) refl
 
-pub fit-at : (road : Road) (cs : List Carrier) (i : ℕ) (d : Carrier) → Faultless road cs → i < length cs → Fit road (getD cs i d)
-fit-at road cs i d h p =
-    fit road (getD cs i d) (none-at (unlawful road) cs i d (h .lawful) p) (none-at (pastEnd road) cs i d (h .before-end) p)
+module _ {r : Row} (road : Road) where
+  pub fit-at : (cs : List Carrier) (i : ℕ) (d : Carrier) → Faultless r road cs → i < length cs → Fit road (getD cs i d)
+  fit-at cs i d h p =
+      fit road (getD cs i d) (none-at (unlawful road) cs i d (h .lawful) p) (none-at (pastEnd road) cs i d (h .before-end) p)
 
--- the same of the first `count` records
-pub fit-of : (road : Road) (l : List Carrier) (count i : ℕ) (d : Carrier) → Faultless road (take count l) → i < count → count ≤ length l → Fit road (getD l i d)
-fit-of road l count i d h p k =
-    fit road (getD l i d) (none-of (unlawful road) l count i d (h .lawful) p k) (none-of (pastEnd road) l count i d (h .before-end) p k)
+  -- the same of the first `count` records
+  pub fit-of : (l : List Carrier) (count i : ℕ) (d : Carrier) → Faultless r road (take count l) → i < count → count ≤ length l → Fit road (getD l i d)
+  fit-of l count i d h p k =
+      fit road (getD l i d) (none-of (unlawful road) l count i d (h .lawful) p k) (none-of (pastEnd road) l count i d (h .before-end) p k)
 
--- and of those from a place on
-pub fit-from : (road : Road) (l : List Carrier) (count i : ℕ) (d : Carrier) → Faultless road (slice i count l) → i < count → count ≤ length l → Fit road (getD l i d)
-fit-from road l count i d h p k = fit-at road (getD l i d ∷ slice (i + 1) count l) 0 d (rw (slice-next d l i count p k) at h) (omega arith)
+  -- and of those from a place on
+  pub fit-from : (l : List Carrier) (count i : ℕ) (d : Carrier) → Faultless r road (slice i count l) → i < count → count ≤ length l → Fit road (getD l i d)
+  fit-from l count i d h p k = fit-at (getD l i d ∷ slice (i + 1) count l) 0 d (rw (slice-next d l i count p k) at h) (omega arith)
 
 -- ---- a state
 pub record Sound (s : State) : Type 0 where
   pub started : s .started ≡ true
   pub road : SoundRoad (s .road)
+  pub in-force : unsound (s .tables .inForce) ≡ false
+  pub next : unsound (s .tables .next) ≡ false
   pub count : s .count ≤ 64
-  pub carriers : Faultless (s .road) (s .carriers)
+  pub carriers : Faultless (rowIn (s .tables) (s .road)) (s .road) (s .carriers)
+
+-- the row in force
+pub row-sound : {s : State} → Sound s → SoundRow (rowIn (s .tables) (s .road))
+row-sound {s} h = sound-at (s .tables .inForce) (s .road .surface) (h .road .surface) (h .in-force)
 
 pub sound : (s : State) → broken s ≡ false → Sound s
 unfolding broken
@@ -147,21 +156,33 @@ sound s e =
     let never = not (s .started) in
     let off = not (eqb (roadNo (s .road)) 0) in
     let many = ltb 64 (s .count) in
-    let t = neither (never || off || many) (faulty (s .road) (s .carriers)) e in
-    let u = neither (never || off) many (t .0) in
-    let v = neither never off (u .0) in
+    let t = neither (never || off || unsound (s .tables .inForce) || unsound (s .tables .next) || many) (faulty (rowIn (s .tables) (s .road)) (s .road) (s .carriers)) e in
+    let u = neither (never || off || unsound (s .tables .inForce) || unsound (s .tables .next)) many (t .0) in
+    let v = neither (never || off || unsound (s .tables .inForce)) (unsound (s .tables .next)) (u .0) in
+    let w = neither (never || off) (unsound (s .tables .inForce)) (v .0) in
+    let x = neither never off (w .0) in
     record {
-      started = not-false (s .started) (v .0);
-      road = sound-road (s .road) (eqb-true (roadNo (s .road)) 0 (not-false _ (v .1)));
+      started = not-false (s .started) (x .0);
+      road = sound-road (s .road) (eqb-true (roadNo (s .road)) 0 (not-false _ (x .1)));
+      in-force = w .1;
+      next = v .1;
       count = ltb-false 64 (s .count) (u .1);
-      carriers = faultless (s .road) (s .carriers) (t .1);
+      carriers = faultless (rowIn (s .tables) (s .road)) (s .road) (s .carriers) (t .1);
     }
 
 pub sound-holds : (s : State) → Sound s → broken s ≡ false
 unfolding broken
 sound-holds s h =
-    rw (h .started, sound-road-holds (s .road) (h .road), le-ltb 64 (s .count) (h .count), faultless-holds (s .road) (s .carriers) (h .carriers)) refl
+    rw (
+      h .started,
+      sound-road-holds (s .road) (h .road),
+      h .in-force,
+      h .next,
+      le-ltb 64 (s .count) (h .count),
+      faultless-holds (rowIn (s .tables) (s .road)) (s .road) (s .carriers) (h .carriers),
+    )
+    refl
 
 -- of a lane whose figures the code holds
-pub sound-with : (l : Words) (f : Figures) → f ≡ figuresIn l → broken (stateOf l) ≡ false → Sound (stateWith f (recordsIn l))
+pub sound-with : (l : Words) (f : Figures) → f ≡ figuresIn l → broken (stateOf l) ≡ false → Sound (stateWith f (tablesIn l) (recordsIn l))
 sound-with l f e unbroken = rw e (sound (stateOf l) unbroken)

@@ -1,16 +1,17 @@
--- The surface rows: a rule that holds of each row of the table, and so of the row of each code.
+-- The surface rows: what is known of a sound row, and of each row of a table of which none is unsound.
 use mathlib.Core.Path.{_≡_, refl}
-use mathlib.Core.Bool.{Bool, true, _&&_}
-use mathlib.Core.List.{List, [], _∷_}
-use Prim.Native.Nat.{ℕ, zero, suc, _≤_, _<_}
-use native.Mathlib.Nat.{le-trans, le-of-suc-le-suc, not-suc-le-zero}
+use mathlib.Core.Bool.{Bool, true, false, not, _&&_, _||_, or-true}
+use mathlib.Core.List.{List}
+use Prim.Native.Nat.{ℕ, zero, suc, _+_, _≤_, _<_}
+use native.Mathlib.Nat.{le-trans}
+use native.Mathlib.Numerals.{add-one}
 use native.Mathlib.Omega.{arith}
-use borrow.Author.Tests.{leb-true}
-use lib.Dec.{leb}
-use lib.ListN.{length, getD}
+use borrow.Author.Tests.{leb-true, eqb-true, eqb-false, not-false}
+use lib.Dec.{eqb, leb}
 use Rattle.lane.specs.declared.Row.{Row}
-use Rattle.lane.specs.Surface.{row, houseRows, rowOf}
+use Rattle.lane.specs.Surface.{houseRows, rowOf, soundRow, unsoundBelow, unsound}
 use Rattle.lane.proofs.lists.Passed.{both}
+use Rattle.lane.proofs.lists.Tests.{neither}
 
 pub record SoundRow (r : Row) : Type 0 where
   pub brakes : 1 ≤ r .guaranteed
@@ -19,41 +20,70 @@ pub record SoundRow (r : Row) : Type 0 where
   pub gains : 1 ≤ r .most
   pub gains-most : r .most ≤ 255
 
-every : (Row → Bool) → List Row → Bool
-every f [] = true
-every f (r ∷ rs) = f r && every f rs
-
-every-at : (f : Row → Bool) (rs : List Row) (d : Row) → every f rs ≡ true → (k : ℕ) → k < length rs → f (getD rs k d) ≡ true
-unfolding every
-every-at f [] d e k h = absurd (not-suc-le-zero h)
-every-at f (r ∷ rs) d e zero h = both (f r) (every f rs) e .0
-every-at f (r ∷ rs) d e (suc k) h = every-at f rs d (both (f r) (every f rs) e .1) k (le-of-suc-le-suc h)
-
--- the rule as a test
-ordered : Row → Bool
-ordered r = leb 1 (r .guaranteed) && (leb (r .guaranteed) (r .hardest) && (leb (r .hardest) 255 && (leb 1 (r .most) && leb (r .most) 255)))
-
-ordered-sound : (r : Row) → ordered r ≡ true → SoundRow r
-unfolding ordered
-ordered-sound r e =
-    let t = both (leb 1 (r .guaranteed)) _ e in
-    let u = both (leb (r .guaranteed) (r .hardest)) _ (t .1) in
-    let v = both (leb (r .hardest) 255) _ (u .1) in
-    let w = both (leb 1 (r .most)) _ (v .1) in
+pub sound-row : (r : Row) → soundRow r ≡ true → SoundRow r
+unfolding soundRow
+sound-row r e =
+    let t = both _ (leb (r .most) 255) e in
+    let u = both _ (leb 1 (r .most)) (t .0) in
+    let v = both _ (leb (r .hardest) 255) (u .0) in
+    let w = both (leb 1 (r .guaranteed)) (leb (r .guaranteed) (r .hardest)) (v .0) in
     record {
-      brakes = leb-true _ _ (t .0);
-      brakes-harder = leb-true _ _ (u .0);
-      hardest-most = leb-true _ _ (v .0);
-      gains = leb-true _ _ (w .0);
-      gains-most = leb-true _ _ (w .1);
+      brakes = leb-true _ _ (w .0);
+      brakes-harder = leb-true _ _ (w .1);
+      hardest-most = leb-true _ _ (v .1);
+      gains = leb-true _ _ (u .1);
+      gains-most = leb-true _ _ (t .1);
     }
 
-pub sound-row : (code : ℕ) → code ≤ 7 → SoundRow (rowOf code)
-unfolding rowOf houseRows every ordered
-sound-row code h = ordered-sound (rowOf code) (every-at ordered houseRows (row 0 0 0) refl code (omega arith))
-
 -- what a function requires of the row that it is handed
-pub row-brakes : (r : Row) (code : ℕ) → r ≡ rowOf code → code ≤ 7 → (1 ≤ r .guaranteed) × (1 ≤ r .hardest)
-row-brakes r code e h =
-    let s = sound-row code h in
-    rw e (s .brakes, le-trans (s .brakes) (s .brakes-harder))
+pub row-brakes : (r : Row) → SoundRow r → (1 ≤ r .guaranteed) × (1 ≤ r .hardest)
+row-brakes r s = (s .brakes, le-trans (s .brakes) (s .brakes-harder))
+
+-- ---- a table
+module _ (rows : List Row) where
+  below-sound : (n code : ℕ) → code < n → unsoundBelow n rows ≡ false → soundRow (rowOf rows code) ≡ true
+  unfolding unsoundBelow
+  below-sound zero code h e = absurd (omega arith)
+  below-sound (suc n) code h e = by-place (eqb code n) refl (below-sound n code)
+    where
+      t : (unsoundBelow n rows ≡ false) × (not (soundRow (rowOf rows n)) ≡ false)
+      t = neither (unsoundBelow n rows) (not (soundRow (rowOf rows n))) e
+
+      by-place : (b : Bool) → eqb code n ≡ b → (code < n → unsoundBelow n rows ≡ false → soundRow (rowOf rows code) ≡ true) → soundRow (rowOf rows code) ≡ true
+      by-place true p before = rw (eqb-true code n p) (not-false _ (t .1))
+      by-place false p before = before (omega (arith, eqb-false code n p)) (t .0)
+
+  pub sound-at : (code : ℕ) → code ≤ 7 → unsound rows ≡ false → SoundRow (rowOf rows code)
+  unfolding unsound
+  sound-at code h e = sound-row (rowOf rows code) (below-sound 8 code (omega arith) e)
+
+  -- ---- the pass over the codes
+  pub none-passed : unsoundBelow 0 rows ≡ false
+  unfolding unsoundBelow
+  none-passed = refl
+
+  pub sound-passed : (code : ℕ) → unsoundBelow code rows ≡ false → not (soundRow (rowOf rows code)) ≡ false → unsoundBelow (code + 1) rows ≡ false
+  unfolding unsoundBelow
+  sound-passed code passed e = rw (add-one code, passed, e) refl
+
+  still-unsound : (n code : ℕ) → code ≤ n → unsoundBelow code rows ≡ true → unsoundBelow n rows ≡ true
+  unfolding unsoundBelow
+  still-unsound zero code h e = let z : code ≡ 0 = omega arith in rw z at e
+  still-unsound (suc n) code h e = by-place (eqb code (suc n)) refl (λ k. still-unsound n code k e)
+    where
+      by-place : (b : Bool) → eqb code (suc n) ≡ b → (code ≤ n → unsoundBelow n rows ≡ true) → unsoundBelow (suc n) rows ≡ true
+      by-place true p before = rw (eqb-true code (suc n) p) at e
+      by-place false p before = rw (before (omega (arith, eqb-false code (suc n) p))) refl
+
+  pub unsound-found : (code : ℕ) → code < 8 → not (soundRow (rowOf rows code)) ≡ true → unsound rows ≡ true
+  unfolding unsound unsoundBelow
+  unsound-found code h e = still-unsound 8 (suc code) (omega arith) (rw (e, or-true))
+
+  pub all-passed : (code : ℕ) → 8 ≤ code → code ≤ 8 → unsoundBelow code rows ≡ false → unsound rows ≡ false
+  unfolding unsound
+  all-passed code h k e = let p : code ≡ 8 = omega arith in rw p at e
+
+-- the house rows are sound
+pub house-sound : unsound houseRows ≡ false
+unfolding houseRows rowOf soundRow unsoundBelow unsound
+house-sound = refl

@@ -15,7 +15,6 @@ use Rattle.lane.specs.declared.Carrier.{Carrier}
 use Rattle.lane.specs.declared.Drive.{Drive}
 use Rattle.lane.specs.declared.Road.{Road}
 use Rattle.lane.specs.declared.Row.{Row}
-use Rattle.lane.specs.Surface.{rowIn}
 use Rattle.lane.specs.Safety.{Ahead, nobody, leader}
 use Rattle.lane.specs.Rules.{pastEnd}
 use Rattle.lane.specs.Wishes.{drive, drives, moved, allMoved, bit, wordOf, replacedIn, remaining}
@@ -29,15 +28,15 @@ abbrev pub aheadAt : ℕ → Carrier → Ahead
 aheadAt i ahead = cond (eqb i 0) nobody (leader ahead)
 
 -- what the first `count` of the carriers cs do
-abbrev pub allDrives : Road → (count : ℕ) → List Carrier → List ℤ → List Drive
-allDrives road count cs zs = drives (rowIn road) (road .limit) nobody (take count cs) (take count zs)
+abbrev pub allDrives : Row → Road → (count : ℕ) → List Carrier → List ℤ → List Drive
+allDrives row road count cs zs = drives row (road .limit) nobody (take count cs) (take count zs)
 
 -- and those from place i on
-abbrev drivesFrom : Road → (count : ℕ) → List Carrier → List ℤ → Carrier → ℕ → List Drive
-drivesFrom road count cs zs ahead i = drives (rowIn road) (road .limit) (aheadAt i ahead) (slice i count cs) (slice i count zs)
+abbrev drivesFrom : Row → Road → (count : ℕ) → List Carrier → List ℤ → Carrier → ℕ → List Drive
+drivesFrom row road count cs zs ahead i = drives row (road .limit) (aheadAt i ahead) (slice i count cs) (slice i count zs)
 
 -- The records were cs and are `now`. The first i carriers have driven, and `left` of them are left.
-pub record Driving (road : Road) (count : ℕ) (cs : List Carrier) (zs : List ℤ) (now : List Carrier) (left word : ℕ) (ahead : Carrier) (i : ℕ) : Type 0 where
+pub record Driving (row : Row) (road : Road) (count : ℕ) (cs : List Carrier) (zs : List ℤ) (now : List Carrier) (left word : ℕ) (ahead : Carrier) (i : ℕ) : Type 0 where
   pub most : count ≤ 64
   pub carriers : length cs ≡ 64
   pub units : length zs ≡ 64
@@ -50,13 +49,13 @@ pub record Driving (road : Road) (count : ℕ) (cs : List Carrier) (zs : List �
   pub flags : List Bool
   pub many : length flags ≡ i
   pub bits : word ≡ wordOf flags
-  pub marks : replacedIn (allDrives road count cs zs) ≡ flags ++ replacedIn (drivesFrom road count cs zs ahead i)
-  pub kept : remaining road (allMoved (take count cs) (allDrives road count cs zs))
-      ≡ take left now ++ remaining road (allMoved (slice i count cs) (drivesFrom road count cs zs ahead i))
+  pub marks : replacedIn (allDrives row road count cs zs) ≡ flags ++ replacedIn (drivesFrom row road count cs zs ahead i)
+  pub kept : remaining road (allMoved (take count cs) (allDrives row road count cs zs))
+      ≡ take left now ++ remaining road (allMoved (slice i count cs) (drivesFrom row road count cs zs ahead i))
 
-pub driving-start : (road : Road) (count : ℕ) (cs : List Carrier) (zs : List ℤ) → count ≤ 64 → length cs ≡ 64 → length zs ≡ 64
-    → Driving road count cs zs cs 0 0 none 0
-driving-start road count cs zs h kc kz =
+pub driving-start : (row : Row) (road : Road) (count : ℕ) (cs : List Carrier) (zs : List ℤ) → count ≤ 64 → length cs ≡ 64 → length zs ≡ 64
+    → Driving row road count cs zs cs 0 0 none 0
+driving-start row road count cs zs h kc kz =
     record {
       most = h;
       carriers = kc;
@@ -73,8 +72,8 @@ driving-start road count cs zs h kc kz =
       kept = refl;
     }
 
-module _ {road : Road} {count : ℕ} {cs : List Carrier} {zs : List ℤ} {now : List Carrier} {left word : ℕ} {ahead : Carrier} {i : ℕ}
-    (m : Driving road count cs zs now left word ahead i) where
+module _ {row : Row} {road : Road} {count : ℕ} {cs : List Carrier} {zs : List ℤ} {now : List Carrier} {left word : ℕ} {ahead : Carrier} {i : ℕ}
+    (m : Driving row road count cs zs now left word ahead i) where
   pub word-below : word < 2 ^ i
   word-below = rw (m .bits) (rw (m .many) at (word-lt (m .flags)))
 
@@ -89,29 +88,28 @@ module _ {road : Road} {count : ℕ} {cs : List Carrier} {zs : List ℤ} {now : 
   still-on = sym (drop-drop 1 i now) ∙ ap (drop 1) (m .still) ∙ drop-drop 1 i cs
 
   -- one carrier more, by what the functions called at its place have given
-  module _ (r : Row) (c : Carrier) (d : Drive) (word₁ : ℕ) (there : Carrier) (h : i < count) (narrow : Narrow c) (row : r ≡ rowIn road)
-      (read : c ≡ getD now i none) (driven : d ≡ drive r (road .limit) (aheadAt i ahead) c (getD zs i (pos 0)))
+  module _ (c : Carrier) (d : Drive) (word₁ : ℕ) (there : Carrier) (h : i < count) (narrow : Narrow c) (read : c ≡ getD now i none) (driven : d ≡ drive row (road .limit) (aheadAt i ahead) c (getD zs i (pos 0)))
       (marked : word₁ ≡ word + bit (d .replaced) * 2 ^ i) (moves : there ≡ moved c (d .acceleration)) where
     carrier-next : slice i count cs ≡ c ∷ slice (i + 1) count cs
     carrier-next = rw (read, here) (slice-next none cs i count h (omega (arith, m .most, m .carriers)))
 
-    drives-next : drivesFrom road count cs zs ahead i ≡ d ∷ drivesFrom road count cs zs c (i + 1)
+    drives-next : drivesFrom row road count cs zs ahead i ≡ d ∷ drivesFrom row road count cs zs c (i + 1)
     unfolding drives
     drives-next =
         let late : eqb (i + 1) 0 ≡ false = ne-eqb (i + 1) 0 (λ q. omega arith) in
-        rw (carrier-next, slice-next (pos 0) zs i count h (omega (arith, m .most, m .units)), late, driven, row) refl
+        rw (carrier-next, slice-next (pos 0) zs i count h (omega (arith, m .most, m .units)), late, driven) refl
 
     abbrev more : List Carrier
-    more = allMoved (slice (i + 1) count cs) (drivesFrom road count cs zs c (i + 1))
+    more = allMoved (slice (i + 1) count cs) (drivesFrom row road count cs zs c (i + 1))
 
-    moved-on : remaining road (allMoved (take count cs) (allDrives road count cs zs)) ≡ take left now ++ remaining road (there ∷ more)
+    moved-on : remaining road (allMoved (take count cs) (allDrives row road count cs zs)) ≡ take left now ++ remaining road (there ∷ more)
     unfolding allMoved
     moved-on = m .kept ∙ rw (drives-next, carrier-next, moves) refl
 
     -- the rest of what is known goes on alike, whether the carrier stays or is gone
     on : (next : List Carrier) (left₁ : ℕ) → length next ≡ 64 → left₁ ≤ i + 1 → drop (i + 1) next ≡ drop (i + 1) cs
         → take left now ++ remaining road (there ∷ more) ≡ take left₁ next ++ remaining road more
-        → Driving road count cs zs next left₁ word₁ c (i + 1)
+        → Driving row road count cs zs next left₁ word₁ c (i + 1)
     on next left₁ long few still kept =
         record {
           most = m .most;
@@ -126,12 +124,12 @@ module _ {road : Road} {count : ℕ} {cs : List Carrier} {zs : List ℤ} {now : 
           many = length-append (m .flags) (d .replaced ∷ []) ∙ omega (arith, m .many);
           bits = marked ∙ sym (word-snoc (m .flags) (d .replaced) ∙ rw (m .many, ← m .bits) refl);
           marks = m .marks ∙ ap (λ (t : List Drive). m .flags ++ replacedIn t) drives-next
-              ∙ sym (append-assoc (m .flags) (d .replaced ∷ []) (replacedIn (drivesFrom road count cs zs c (i + 1))));
+              ∙ sym (append-assoc (m .flags) (d .replaced ∷ []) (replacedIn (drivesFrom row road count cs zs c (i + 1))));
           kept = moved-on ∙ kept;
         }
 
     by-end : (gone : Bool) → pastEnd road there ≡ gone
-        → Driving road count cs zs (cond gone now (set now left there)) (cond gone left (left + 1)) word₁ c (i + 1)
+        → Driving row road count cs zs (cond gone now (set now left there)) (cond gone left (left + 1)) word₁ c (i + 1)
     unfolding remaining
     by-end true e = on now left (m .long) (omega (arith, m .few)) still-on (rw e refl)
     by-end false e =
@@ -143,7 +141,7 @@ module _ {road : Road} {count : ℕ} {cs : List Carrier} {zs : List ℤ} {now : 
         (rw (e, taken) (sym (append-assoc (take left now) (there ∷ []) (remaining road more))))
 
     pub driving-on : (next : List Carrier) (left₁ : ℕ) → next ≡ cond (pastEnd road there) now (set now left there)
-        → left₁ ≡ cond (pastEnd road there) left (left + 1) → Driving road count cs zs next left₁ word₁ c (i + 1)
+        → left₁ ≡ cond (pastEnd road there) left (left + 1) → Driving row road count cs zs next left₁ word₁ c (i + 1)
     driving-on next left₁ p q = rw (p, q) (by-end (pastEnd road there) refl)
 
   -- past the last carrier
@@ -151,10 +149,10 @@ module _ {road : Road} {count : ℕ} {cs : List Carrier} {zs : List ℤ} {now : 
     at-end : i ≡ count
     at-end = omega (arith, m .place)
 
-    pub all-marked : word ≡ wordOf (replacedIn (allDrives road count cs zs))
+    pub all-marked : word ≡ wordOf (replacedIn (allDrives row road count cs zs))
     unfolding drives
     all-marked = m .bits ∙ ap wordOf (sym (m .marks ∙ rw (at-end, slice-empty count cs) (append-nil (m .flags))))
 
-    pub all-kept : take left now ≡ remaining road (allMoved (take count cs) (allDrives road count cs zs))
+    pub all-kept : take left now ≡ remaining road (allMoved (take count cs) (allDrives row road count cs zs))
     unfolding drives allMoved remaining
     all-kept = sym (m .kept ∙ rw (at-end, slice-empty count cs) (append-nil (take left now)))

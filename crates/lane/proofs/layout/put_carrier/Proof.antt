@@ -1,6 +1,6 @@
 -- A row put is a record put.
 use borrow.Author.Needs.{needs}
-use Rattle.lane.proofs.checks.Records.{records-set, figures-kept}
+use Rattle.lane.proofs.checks.Records.{records-set, head-kept}
 use Rattle.lane.proofs.layout.put_carrier.Statement.{statement}
 use Rattle.lane.proofs.layout.put_carrier.Tie as tie
 
@@ -38,7 +38,7 @@ element-set-from-l : tie.Need-element-set-from-l
 element-set-from-l c = search needs
 
 returns : tie.Need-returns
-returns c = let a = c .before .args in (figures-kept (a .l .now) (a .place) _, records-set (a .l .now) (a .place) _)
+returns c = let a = c .before .args in (head-kept (a .l .now) (a .place) _, records-set (a .l .now) (a .place) _)
 
 pub put-carrier-spec : {M : Type 1} → statement M
 put-carrier-spec =

@@ -8,7 +8,8 @@ use lib.ListN.{length}
 use Rattle.text.specs.Lines.{written}
 use Rattle.lane.specs.declared.Carrier.{Carrier}
 use Rattle.lane.specs.declared.layout.Figures.{Figures}
-use Rattle.lane.specs.Layout.{recordsIn, stateWith, stateOf}
+use Rattle.lane.specs.Surface.{Tables}
+use Rattle.lane.specs.Layout.{tablesIn, recordsIn, stateWith, stateOf}
 use Rattle.lane.specs.Calls.{none}
 use Rattle.lane.specs.Listing.{laneText}
 use Rattle.lane.proofs.calls.Texts.{Writing, length-next, writing-start, writing-next, writing-end}
@@ -33,14 +34,17 @@ module _ (c : tie.After-put-decimal-line Inv-loop μ-loop) where
   abbrev f : Figures
   f = figures .figures-of .result
 
+  abbrev tables : Tables
+  tables = tablesIn (start .args .l .now)
+
   abbrev records : List Carrier
   records = recordsIn (start .args .l .now)
 
   -- the figures that the code reads are the state's
-  shows : laneText (stateWith f records) ≡ laneText (stateOf (start .args .l .now))
-  shows = ap (λ (x : Figures). laneText (stateWith x records)) (figures .figures-of .ensures .0)
+  shows : laneText (stateWith f tables records) ≡ laneText (stateOf (start .args .l .now))
+  shows = ap (λ (x : Figures). laneText (stateWith x tables records)) (figures .figures-of .ensures .0)
 
-  room : length (laneText (stateWith f records)) ≤ length (start .args .out .now)
+  room : length (laneText (stateWith f tables records)) ≤ length (start .args .out .now)
   room = omega (arith, ap length shows, start .pre .1)
 
 figures-of-requires : tie.Need-figures-of-requires Inv-loop μ-loop
@@ -56,7 +60,7 @@ loop-holds : tie.Need-loop-holds Inv-loop μ-loop
 loop-holds c =
     let first = c .before .before in
     let few : f first .count ≤ 64 = rw (figures first .figures-of .ensures .0) (start first .pre .0) in
-    (figures first .figures-of .ensures .1, (few, (search needs, writing-start (f first) (records first) (start first .args .out .now) (room first) (first .put-decimal-line .ensures))))
+    (figures first .figures-of .ensures .1, (few, (search needs, writing-start (f first) (tables first) (records first) (start first .args .out .now) (room first) (first .put-decimal-line .ensures))))
 
 carrier-at-requires : tie.Need-carrier-at-requires Inv-loop μ-loop
 carrier-at-requires c κs = search needs
@@ -99,7 +103,7 @@ returns : tie.Need-returns Inv-loop μ-loop
 returns c =
     let at = c .before .before in
     let first = at .before .before .before in
-    rw (shows first) at (writing-end (f first) (records first) (start first .args .out .now) (room first) (first .put-decimal-line .ensures) (at .loop .inv .1 .1 .1) (c .if1 .left))
+    rw (shows first) at (writing-end (f first) (tables first) (records first) (start first .args .out .now) (room first) (first .put-decimal-line .ensures) (at .loop .inv .1 .1 .1) (c .if1 .left))
 
 pub put-text-spec : {M : Type 1} → statement M
 put-text-spec =

@@ -11,10 +11,10 @@ use mir.Syntax.{w32, w64}
 use mir.Val.{SFits, toZ, ofZ}
 use mir.Facts.{toZ-ofZ, sfits-widen}
 use Rattle.lane.specs.declared.Carrier.{Carrier}
-use Rattle.lane.specs.Layout.{figuresIn, recordsIn}
+use Rattle.lane.specs.Layout.{figuresIn, tablesIn, recordsIn}
 use Rattle.lane.specs.Wishes.{drive, moved}
 use Rattle.lane.specs.Calls.{none}
-use Rattle.lane.proofs.checks.Surfaces.{row-brakes}
+use Rattle.lane.proofs.checks.Records.{same-head}
 use Rattle.lane.proofs.checks.Soundness.{SoundRoad, sound-road, Fit, fit-of, faultless, Narrow, fit-narrow}
 use Rattle.lane.proofs.driving.Drives.{moved-number}
 use Rattle.lane.proofs.driving.Cycles.{aheadAt, Driving, driving-start, word-below, here, driving-on, all-marked, all-kept}
@@ -22,11 +22,11 @@ use Rattle.lane.proofs.motion.drive_all.Statement.{statement}
 use Rattle.lane.proofs.motion.drive_all.Tie as tie
 
 abbrev Inv-loop : tie.InvT-loop
-Inv-loop l₀ road count units ahead₀ row left₀ word₀ i₀ l ahead left word i =
-    (figuresIn l ≡ figuresIn l₀) × Driving road count (recordsIn l₀) units (recordsIn l) left word ahead i
+Inv-loop l₀ road row count units ahead₀ left₀ word₀ i₀ l ahead left word i =
+    ((figuresIn l ≡ figuresIn l₀) × (tablesIn l ≡ tablesIn l₀)) × Driving row road count (recordsIn l₀) units (recordsIn l) left word ahead i
 
 abbrev μ-loop : tie.MeasureT-loop
-μ-loop l₀ road count units ahead₀ row left₀ word₀ i₀ l ahead left word i = count - i
+μ-loop l₀ road row count units ahead₀ left₀ word₀ i₀ l ahead left word i = count - i
 
 -- the carrier at the loop's place
 module _ (k : tie.After-carrier-at Inv-loop μ-loop) where
@@ -34,7 +34,7 @@ module _ (k : tie.After-carrier-at Inv-loop μ-loop) where
   at = k .before .before .before
 
   abbrev s : tie.Start Inv-loop μ-loop
-  s = at .before .before .before .before
+  s = at .before .before .before
 
   abbrev cs : List Carrier
   cs = recordsIn (s .args .l .now)
@@ -48,7 +48,7 @@ module _ (k : tie.After-carrier-at Inv-loop μ-loop) where
   fit-here : Fit (s .args .road) (k .carrier-at .result)
   fit-here =
       subst (Fit (s .args .road)) (sym (k .carrier-at .ensures ∙ here (at .loop .inv .1)))
-      (fit-of (s .args .road) cs (s .args .count) (at .loop .i) none (faultless _ _ (s .pre .0 .1 .1)) below (omega (arith, s .pre .0 .0, s .pre .1)))
+      (fit-of (s .args .road) cs (s .args .count) (at .loop .i) none (faultless _ _ _ (s .pre .0 .1 .1)) below (omega (arith, s .pre .0 .0, s .pre .1 .0)))
 
   narrow-here : Narrow (k .carrier-at .result)
   narrow-here = fit-narrow (s .args .road) (k .carrier-at .result) road-sound fit-here
@@ -77,14 +77,10 @@ sized-requires c κs = search needs
 no-carrier-requires : tie.Need-no-carrier-requires Inv-loop μ-loop
 no-carrier-requires c κs = search needs
 
-row-in-requires : tie.Need-row-in-requires Inv-loop μ-loop
-row-in-requires c κs = search needs
-
 loop-holds : tie.Need-loop-holds Inv-loop μ-loop
 loop-holds c =
-    let n = c .before in
-    let s = n .before .before in
-    (refl, rw (n .no-carrier .ensures) (driving-start (s .args .road) (s .args .count) _ (s .args .units .now) (s .pre .0 .0) (s .pre .1) (n .before .sized .ensures)))
+    let s = c .before .before in
+    ((refl, refl), rw (c .no-carrier .ensures) (driving-start (s .args .row) (s .args .road) (s .args .count) _ (s .args .units .now) (s .pre .0 .0) (s .pre .1 .0) (c .before .sized .ensures)))
 
 carrier-at-requires : tie.Need-carrier-at-requires Inv-loop μ-loop
 carrier-at-requires c κs = search needs
@@ -103,7 +99,7 @@ drive-one-requires c κs =
     let k = c .before in
     let road = road-sound k in
     let ahead = at k .loop .inv .1 .narrow in (
-      (row-brakes (at k .before .row-in .result) (s k .args .road .surface) (at k .before .row-in .ensures) (road .surface), (fit-here k .slow, road .limit-most)),
+      (s k .pre .1 .1, (fit-here k .slow, road .limit-most)),
       (narrow-here k .position, (ahead .position, ahead .speed)),
     )
 
@@ -143,13 +139,12 @@ loop-again c =
     let marks = moves .before .before .before in
     let d = marks .before in
     let k = d .before .before in
-    let row = at k .before .row-in in
     let x = k .carrier-at .result in
     let inv = at k .loop .inv in
-    let driven = ap (drive (row .result) (s k .args .road .limit) (aheadAt (at k .loop .i) (at k .loop .ahead)) x) (unit-read (d .before)) in
+    let driven = ap (drive (s k .args .row) (s k .args .road .limit) (aheadAt (at k .loop .i) (at k .loop .ahead)) x) (unit-read (d .before)) in
     let moved-there = ap (moved x) (toZ-ofZ (driven-fits (moves .before))) in (
-      c .keep .ensures .0 ∙ inv .0,
-      driving-on (inv .1) (row .result) x (d .drive-one .result) (marks .marked .result) (moves .move-one .result) (below k) (narrow-here k) (row .ensures)
+      same-head (c .keep .ensures .0) (inv .0),
+      driving-on (inv .1) x (d .drive-one .result) (marks .marked .result) (moves .move-one .result) (below k) (narrow-here k)
           (k .carrier-at .ensures) (d .drive-one .ensures .0 ∙ driven) (marks .marked .ensures) (moves .move-one .ensures ∙ moved-there) _ _
           (c .keep .ensures .1 .0) (c .keep .ensures .1 .1),
     )
@@ -158,7 +153,7 @@ returns : tie.Need-returns Inv-loop μ-loop
 returns c =
     let inv = c .before .loop .inv in
     let m = inv .1 in
-    let past : c .before .before .before .before .before .args .count ≤ c .before .loop .i = omega arith in
+    let past : c .before .before .before .before .args .count ≤ c .before .loop .i = omega arith in
     (all-marked m past, (all-kept m past, (omega (arith, m .few, m .place), (inv .0, m .long))))
 
 pub drive-all-spec : {M : Type 1} → statement M
@@ -169,7 +164,6 @@ drive-all-spec =
     μ-loop
     sized-requires
     no-carrier-requires
-    row-in-requires
     loop-holds
     carrier-at-requires
     mul-drive-one

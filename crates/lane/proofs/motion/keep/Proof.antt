@@ -11,7 +11,7 @@ past-end-requires : tie.Need-past-end-requires
 past-end-requires c κs = search needs
 
 returns : tie.Need-returns
-returns c = rw (sym (c .before .past-end .ensures) ∙ c .if1 .taken) (refl, (refl, refl))
+returns c = rw (sym (c .before .past-end .ensures) ∙ c .if1 .taken) ((refl, refl), (refl, refl))
 
 move-record-requires : tie.Need-move-record-requires
 move-record-requires c κs = search needs

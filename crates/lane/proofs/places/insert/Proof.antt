@@ -5,9 +5,9 @@ use native.Mathlib.Omega.{arith}
 use borrow.Author.Needs.{needs}
 use lib.ListN.{length, set, length-set}
 use Rattle.lane.specs.declared.layout.Figures.{Figures}
-use Rattle.lane.specs.Layout.{recordsIn, figuresIn}
+use Rattle.lane.specs.Layout.{figuresIn, tablesIn, recordsIn}
 use Rattle.lane.specs.Calls.{none}
-use Rattle.lane.proofs.checks.Records.{counting, carriers-are}
+use Rattle.lane.proofs.checks.Records.{same-head, counting, carriers-are}
 use Rattle.lane.proofs.lists.Shift.{Opened, opened-start, opened-down, opened-end}
 use Rattle.lane.proofs.places.insert.Statement.{statement}
 use Rattle.lane.proofs.places.insert.Tie as tie
@@ -15,7 +15,7 @@ use Rattle.lane.proofs.places.insert.Tie as tie
 abbrev Inv-loop : tie.InvT-loop
 Inv-loop l₀ place c f count i₀ l i =
     (count ≡ figuresIn l₀ .count)
-    × ((length (recordsIn l₀) ≡ 64) × ((place ≤ i) × ((i ≤ count) × ((figuresIn l ≡ figuresIn l₀) × Opened (recordsIn l₀) (recordsIn l) (figuresIn l₀ .count) i))))
+    × ((length (recordsIn l₀) ≡ 64) × ((place ≤ i) × ((i ≤ count) × (((figuresIn l ≡ figuresIn l₀) × (tablesIn l ≡ tablesIn l₀)) × Opened (recordsIn l₀) (recordsIn l) (figuresIn l₀ .count) i))))
 
 abbrev μ-loop : tie.MeasureT-loop
 μ-loop l₀ place c f count i₀ l i = i
@@ -28,7 +28,7 @@ loop-holds c =
     let l = c .before .before .args .l .now in
     let f = c .figures-of in
     let e : f .result .count ≡ figuresIn l .count = ap (λ (g : Figures). g .count) (f .ensures .0) in
-    (e, (f .ensures .1, (omega arith, (omega arith, (refl, rw e (opened-start (recordsIn l) (figuresIn l .count)))))))
+    (e, (f .ensures .1, (omega arith, (omega arith, ((refl, refl), rw e (opened-start (recordsIn l) (figuresIn l .count)))))))
 
 sub-copy-record : tie.Need-sub-copy-record Inv-loop μ-loop
 sub-copy-record c = search needs
@@ -46,7 +46,7 @@ loop-again : tie.Need-loop-again Inv-loop μ-loop
 loop-again c =
     let at = c .before .before .before .loop in
     let o = opened-down none _ _ _ _ (omega arith) (omega arith) (omega arith) (at .inv .1 .1 .1 .1 .1) in
-    (at .inv .0, (at .inv .1 .0, (omega arith, (omega arith, (c .copy-record .ensures .0 ∙ at .inv .1 .1 .1 .1 .0, rw (c .copy-record .ensures .1) o)))))
+    (at .inv .0, (at .inv .1 .0, (omega arith, (omega arith, (same-head (c .copy-record .ensures .0) (at .inv .1 .1 .1 .1 .0), rw (c .copy-record .ensures .1) o)))))
 
 put-carrier-requires : tie.Need-put-carrier-requires Inv-loop μ-loop
 put-carrier-requires c κs = search needs
@@ -65,12 +65,14 @@ returns c =
     let a = at .before .before .before .args in
     let l = a .l .now in
     let o = at .loop .inv .1 .1 .1 .1 .1 in
+    let head = same-head (put .0) (at .loop .inv .1 .1 .1 .1 .0) in
     let e : at .loop .i ≡ a .place = omega arith in
     let n = figuresIn l .count in
     let records = set (recordsIn (at .loop .l)) (a .place) (a .c) in
     carriers-are l _ _ (n + 1) records _
-    (c .put-count .ensures .0 ∙ ap₂ (λ (g h : Figures). counting g (h .cycle) (h .count + 1)) (put .0 ∙ at .loop .inv .1 .1 .1 .1 .0) (f .ensures .0))
-    (c .put-count .ensures .1 ∙ put .1)
+    (c .put-count .ensures .0 ∙ ap₂ (λ (g h : Figures). counting g (h .cycle) (h .count + 1)) (head .0) (f .ensures .0))
+    (c .put-count .ensures .1 .0 ∙ head .1)
+    (c .put-count .ensures .1 .1 ∙ put .1)
     (omega (arith, o .long, length-set (recordsIn (at .loop .l)) (a .place) (a .c)))
     (opened-end _ _ _ _ _ (omega arith) (omega arith) (rw e at o))
 

@@ -5,9 +5,9 @@ use native.Mathlib.Omega.{arith}
 use borrow.Author.Needs.{needs}
 use lib.ListN.{length}
 use Rattle.lane.specs.declared.layout.Figures.{Figures}
-use Rattle.lane.specs.Layout.{recordsIn, figuresIn}
+use Rattle.lane.specs.Layout.{figuresIn, tablesIn, recordsIn}
 use Rattle.lane.specs.Calls.{none}
-use Rattle.lane.proofs.checks.Records.{counting, carriers-are}
+use Rattle.lane.proofs.checks.Records.{same-head, counting, carriers-are}
 use Rattle.lane.proofs.lists.Shift.{Closed, closed-start, closed-up, closed-end}
 use Rattle.lane.proofs.places.remove.Statement.{statement}
 use Rattle.lane.proofs.places.remove.Tie as tie
@@ -15,7 +15,7 @@ use Rattle.lane.proofs.places.remove.Tie as tie
 abbrev Inv-loop : tie.InvT-loop
 Inv-loop l₀ place f last i₀ l i =
     (last ≡ figuresIn l₀ .count - 1)
-    × ((length (recordsIn l₀) ≡ 64) × ((place ≤ i) × ((i ≤ last) × ((figuresIn l ≡ figuresIn l₀) × Closed (recordsIn l₀) (recordsIn l) place i))))
+    × ((length (recordsIn l₀) ≡ 64) × ((place ≤ i) × ((i ≤ last) × (((figuresIn l ≡ figuresIn l₀) × (tablesIn l ≡ tablesIn l₀)) × Closed (recordsIn l₀) (recordsIn l) place i))))
 
 abbrev μ-loop : tie.MeasureT-loop
 μ-loop l₀ place f last i₀ l i = last - i
@@ -34,7 +34,7 @@ loop-holds c =
     let a = c .before .before .before .args in
     let f = c .before .figures-of in
     let e : f .result .count ≡ figuresIn (a .l .now) .count = ap (λ (g : Figures). g .count) (f .ensures .0) in
-    (omega arith, (f .ensures .1, (omega arith, (omega arith, (refl, closed-start (recordsIn (a .l .now)) (a .place))))))
+    (omega arith, (f .ensures .1, (omega arith, (omega arith, ((refl, refl), closed-start (recordsIn (a .l .now)) (a .place))))))
 
 add-copy-record : tie.Need-add-copy-record Inv-loop μ-loop
 add-copy-record c = search needs
@@ -52,7 +52,7 @@ loop-again : tie.Need-loop-again Inv-loop μ-loop
 loop-again c =
     let at = c .before .before .before .loop in
     let o = closed-up none _ _ _ _ (omega arith) (omega arith) (at .inv .1 .1 .1 .1 .1) in
-    (at .inv .0, (at .inv .1 .0, (omega arith, (omega arith, (c .copy-record .ensures .0 ∙ at .inv .1 .1 .1 .1 .0, rw (c .copy-record .ensures .1) o)))))
+    (at .inv .0, (at .inv .1 .0, (omega arith, (omega arith, (same-head (c .copy-record .ensures .0) (at .inv .1 .1 .1 .1 .0), rw (c .copy-record .ensures .1) o)))))
 
 put-count-requires : tie.Need-put-count-requires Inv-loop μ-loop
 put-count-requires c κs = search needs
@@ -67,8 +67,9 @@ returns c =
     let n = figuresIn l .count in
     let e : at .loop .i ≡ n - 1 = omega arith in
     carriers-are l _ _ (n - 1) _ _
-    (c .put-count .ensures .0 ∙ ap₂ (λ (g h : Figures). counting g (h .cycle) (h .count - 1)) (inv .1 .1 .1 .1 .0) (f .ensures .0))
-    (c .put-count .ensures .1)
+    (c .put-count .ensures .0 ∙ ap₂ (λ (g h : Figures). counting g (h .cycle) (h .count - 1)) (inv .1 .1 .1 .1 .0 .0) (f .ensures .0))
+    (c .put-count .ensures .1 .0 ∙ inv .1 .1 .1 .1 .0 .1)
+    (c .put-count .ensures .1 .1)
     (omega (arith, o .long))
     (closed-end _ _ _ _ (omega arith) (rw e at o))
 

@@ -1,45 +1,52 @@
--- Each arm has the row of its code, and past the last code both have zeros.
-use mathlib.Core.Path.{_≡_, sym, ap, _∙_}
-use Prim.Native.Nat.{ℕ, _+_, _≤_, zero-le}
+-- A sound row is of 32 bits.
 use native.Mathlib.Omega.{arith}
 use borrow.Author.Needs.{needs}
-use lib.ListN.{List·getD-eq-default}
-use Rattle.lane.specs.Surface.{row, houseRows, rowOf}
+use Rattle.lane.specs.Layout.{surfaceIn, tableFrom}
+use Rattle.lane.proofs.checks.Surfaces.{SoundRow, sound-at}
+use Rattle.lane.proofs.checks.Soundness.{sound-road}
 use Rattle.lane.proofs.rows.row_in.Statement.{statement}
 use Rattle.lane.proofs.rows.row_in.Tie as tie
 
-above : (k n : ℕ) → k ≤ n → (n ≡ k → ⊥) → k + 1 ≤ n
-above k n h e = omega arith
+surface-at-requires : tie.Need-surface-at-requires
+surface-at-requires c κs = let s = sound-road _ (c .pre .0) in (omega arith, omega (arith, s .surface))
 
-past-last : tie.Need-returns-9
-unfolding rowOf houseRows
-past-last c =
-    let n = c .before .before .args .road .surface in
-    let r = c .before .match .rest in
-    let three : 3 ≤ n = above 2 n (above 1 n (above 0 n zero-le (r .0 .0 .0 .0 .0 .0 .0 .1)) (r .0 .0 .0 .0 .0 .0 .1)) (r .0 .0 .0 .0 .0 .1) in
-    let six : 6 ≤ n = above 5 n (above 4 n (above 3 n three (r .0 .0 .0 .0 .1)) (r .0 .0 .0 .1)) (r .0 .0 .1) in
-    c .row9 .ensures ∙ sym (List·getD-eq-default houseRows (row 0 0 0) {n = n} (above 7 n (above 6 n six (r .0 .1)) (r .1)))
+-- the row read is sound
+known : (k : tie.After-surface-at) → SoundRow (surfaceIn (k .surface-at .result))
+known k =
+    let s = k .before in
+    rw (k .surface-at .ensures) (sound-at (tableFrom 1 (s .args .l .now)) (s .args .road .surface) (sound-road _ (s .pre .0) .surface) (s .pre .1))
+
+array-read-narrow : tie.Need-array-read-narrow
+array-read-narrow c = search needs
+
+narrow-requires : tie.Need-narrow-requires
+narrow-requires c κs = let r = known c in omega (arith, r .brakes-harder, r .hardest-most)
+
+array-read-narrow-2 : tie.Need-array-read-narrow-2
+array-read-narrow-2 c = search needs
+
+narrow-requires-2 : tie.Need-narrow-requires-2
+narrow-requires-2 c κs = omega (arith, known (c .before) .hardest-most)
+
+array-read-narrow-3 : tie.Need-array-read-narrow-3
+array-read-narrow-3 c = search needs
+
+narrow-requires-3 : tie.Need-narrow-requires-3
+narrow-requires-3 c κs = omega (arith, known (c .before .before) .gains-most)
+
+returns : tie.Need-returns
+returns c =
+    rw (c .before .before .narrow .ensures, c .before .narrow2 .ensures, c .narrow3 .ensures) (c .before .before .before .surface-at .ensures)
 
 pub row-in-spec : {M : Type 1} → statement M
-unfolding rowOf houseRows
 row-in-spec =
     tie.close
     (tie.spec
-    (λ c κs. search needs)
-    (λ c κs. search needs)
-    (λ c κs. search needs)
-    (λ c κs. search needs)
-    (λ c κs. search needs)
-    (λ c κs. search needs)
-    (λ c κs. search needs)
-    (λ c κs. search needs)
-    (λ c κs. search needs)
-    (λ c. c .row .ensures ∙ sym (ap rowOf (c .before .match .keys1)))
-    (λ c. c .row2 .ensures ∙ sym (ap rowOf (c .before .match .keys2)))
-    (λ c. c .row3 .ensures ∙ sym (ap rowOf (c .before .match .keys3)))
-    (λ c. c .row4 .ensures ∙ sym (ap rowOf (c .before .match .keys4)))
-    (λ c. c .row5 .ensures ∙ sym (ap rowOf (c .before .match .keys5)))
-    (λ c. c .row6 .ensures ∙ sym (ap rowOf (c .before .match .keys6)))
-    (λ c. c .row7 .ensures ∙ sym (ap rowOf (c .before .match .keys7)))
-    (λ c. c .row8 .ensures ∙ sym (ap rowOf (c .before .match .keys8)))
-    past-last)
+    surface-at-requires
+    array-read-narrow
+    narrow-requires
+    array-read-narrow-2
+    narrow-requires-2
+    array-read-narrow-3
+    narrow-requires-3
+    returns)

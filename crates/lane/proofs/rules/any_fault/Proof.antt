@@ -1,5 +1,5 @@
 -- The carriers passed break no rule, and those of one sort are linked; of the one just passed it is known where it rests.
-use mathlib.Core.Path.{_≡_, refl, sym, ap₂, _∙_, subst}
+use mathlib.Core.Path.{_≡_, refl, sym, ap, _∙_, subst}
 use mathlib.Core.Bool.{true, not, _||_}
 use mathlib.Core.List.{List}
 use mathlib.Core.Logic.{⊎-elim}
@@ -10,8 +10,6 @@ use borrow.Author.Tests.{not-false}
 use lib.ListN.{length, getD, length-set, take, replicate}
 use lib.Seq.{slice, slice-empty}
 use Rattle.lane.specs.declared.Carrier.{Carrier}
-use Rattle.lane.specs.declared.Row.{Row}
-use Rattle.lane.specs.Surface.{rowIn}
 use Rattle.lane.specs.Layout.{recordsIn}
 use Rattle.lane.specs.Safety.{leader, safeWith, safeFrom, anyOf, numbered}
 use Rattle.lane.specs.Rules.{faulty}
@@ -24,26 +22,23 @@ use Rattle.lane.proofs.rules.any_fault.Statement.{statement}
 use Rattle.lane.proofs.rules.any_fault.Tie as tie
 
 abbrev Inv-loop : tie.InvT-loop
-Inv-loop l road count behind₀ row first₀ next₀ stop₀ i₀ behind first next stop i = Passed road row (recordsIn l) count first next behind stop i
+Inv-loop l road row count behind₀ first₀ next₀ stop₀ i₀ behind first next stop i = Passed road row (recordsIn l) count first next behind stop i
 
 abbrev μ-loop : tie.MeasureT-loop
-μ-loop l road count behind₀ row first₀ next₀ stop₀ i₀ behind first next stop i = i
+μ-loop l road row count behind₀ first₀ next₀ stop₀ i₀ behind first next stop i = i
 
 no-carrier-requires : tie.Need-no-carrier-requires Inv-loop μ-loop
 no-carrier-requires c κs = search needs
 
-row-in-requires : tie.Need-row-in-requires Inv-loop μ-loop
-row-in-requires c κs = search needs
-
 loop-holds : tie.Need-loop-holds Inv-loop μ-loop
 loop-holds c =
-    let a = c .before .before .args in
+    let a = c .before .args in
     let l = recordsIn (a .l .now) in
     record {
       sorts = refl;
       places = refl;
       within = omega arith;
-      faultless = rw (slice-empty (a .count) l) (faulty-none (a .road));
+      faultless = rw (slice-empty (a .count) l) (faulty-none (a .row) (a .road));
       met = met-none l (a .count) (omega arith);
       linked = linked-none l (a .count) (replicate 64 64);
       behind-is = λ h. absurd (omega arith);
@@ -63,23 +58,23 @@ past-end-requires : tie.Need-past-end-requires Inv-loop μ-loop
 past-end-requires c κs = search needs
 
 -- what a turn adds to the carriers passed
-turn : (c : tie.After-past-end Inv-loop μ-loop) → let at-carrier = c .before .before in let at = at-carrier .before .before in let a = at .before .before .before .args in
+turn : (c : tie.After-past-end Inv-loop μ-loop) → let at-carrier = c .before .before in let at = at-carrier .before .before in let a = at .before .before .args in
     let cs = slice (at .loop .i) (a .count) (recordsIn (a .l .now)) in
-    faulty (a .road) (slice (at .loop .i - 1) (a .count) (recordsIn (a .l .now)))
-    ≡ (c .before .unlawful .result || c .past-end .result) || not (safeFrom (rowIn (a .road)) (leader (at-carrier .carrier-at .result)) cs) || anyOf (numbered (at-carrier .carrier-at .result .number)) cs
+    faulty (a .row) (a .road) (slice (at .loop .i - 1) (a .count) (recordsIn (a .l .now)))
+    ≡ (c .before .unlawful .result || c .past-end .result) || not (safeFrom (a .row) (leader (at-carrier .carrier-at .result)) cs) || anyOf (numbered (at-carrier .carrier-at .result .number)) cs
 turn c =
     let at-carrier = c .before .before in
     let at = at-carrier .before .before in
-    let a = at .before .before .before .args in
-    fault-next (a .road) (recordsIn (a .l .now)) (a .count) (omega arith) (at .loop .i) (omega arith) (omega arith) (at .loop .inv .faultless)
+    let a = at .before .before .args in
+    fault-next (a .row) (a .road) (recordsIn (a .l .now)) (a .count) (omega arith) (at .loop .i) (omega arith) (omega arith) (at .loop .inv .faultless)
     ∙ rw (c .before .unlawful .ensures, c .past-end .ensures, at-carrier .carrier-at .ensures) refl
 
 -- a fault found past a place is one of the whole
-found : (at : tie.At-loop Inv-loop μ-loop) → let a = at .before .before .before .args in
-    faulty (a .road) (slice (at .loop .i - 1) (a .count) (recordsIn (a .l .now))) ≡ true → true ≡ faulty (a .road) (take (a .count) (recordsIn (a .l .now)))
+found : (at : tie.At-loop Inv-loop μ-loop) → let a = at .before .before .args in
+    faulty (a .row) (a .road) (slice (at .loop .i - 1) (a .count) (recordsIn (a .l .now))) ≡ true → true ≡ faulty (a .row) (a .road) (take (a .count) (recordsIn (a .l .now)))
 found at e =
-    let a = at .before .before .before .args in
-    sym (fault-whole (a .road) (recordsIn (a .l .now)) (a .count) (omega arith) (at .loop .i - 1) (omega arith) e)
+    let a = at .before .before .args in
+    sym (fault-whole (a .row) (a .road) (recordsIn (a .l .now)) (a .count) (omega arith) (at .loop .i - 1) (omega arith) e)
 
 returns : tie.Need-returns Inv-loop μ-loop
 returns c = found (c .before .before .before .before .before) (turn (c .before) ∙ rw (c .if1 .taken) refl)
@@ -96,7 +91,7 @@ module _ (c : tie.Else1 Inv-loop μ-loop) where
   at = at-carrier .before .before
 
   abbrev s : tie.Start Inv-loop μ-loop
-  s = at .before .before .before
+  s = at .before .before
 
   abbrev carrier : Carrier
   carrier = at-carrier .carrier-at .result
@@ -108,7 +103,7 @@ module _ (c : tie.Else1 Inv-loop μ-loop) where
   long = omega arith
 
   road-sound : SoundRoad (s .args .road)
-  road-sound = sound-road _ (s .pre .1 .1)
+  road-sound = sound-road _ (s .pre .0 .1 .1)
 
   lawful : Fit (s .args .road) carrier
   lawful =
@@ -125,19 +120,19 @@ safe-at-requires c κs =
     let a = s e .args in
     let inv = at e .loop .inv in
     let h : at e .loop .i < a .count = omega arith in
-    let next : Fit (a .road) (at e .loop .behind) = subst (Fit (a .road)) (sym (inv .behind-is h)) (fit-from (a .road) (l e) (a .count) (at e .loop .i) none (faultless _ _ (inv .faultless)) h (long e)) in
-    let narrow = pair-narrow (a .road) _ _ _ (road-sound e) (at e .before .row-in .ensures) (lawful e) next in
-    ((narrow .0, inv .stop-is h), (narrow .1 .0, narrow .1 .1 .1))
+    let next : Fit (a .road) (at e .loop .behind) = subst (Fit (a .road)) (sym (inv .behind-is h)) (fit-from (a .road) (l e) (a .count) (at e .loop .i) none (faultless _ _ _ (inv .faultless)) h (long e)) in
+    let narrow = pair-narrow (a .road) _ _ (road-sound e) (lawful e) next in
+    ((s e .pre .1, inv .stop-is h), (narrow .0, narrow .1 .1))
 
 -- the gap to the one behind, where there is one
 gap : (c : tie.After-safe-at Inv-loop μ-loop) → let e = c .before .before in
-    safeFrom (rowIn (s e .args .road)) (leader (carrier e)) (slice (at e .loop .i) (s e .args .count) (l e)) ≡ c .safe-at .result
+    safeFrom (s e .args .row) (leader (carrier e)) (slice (at e .loop .i) (s e .args .count) (l e)) ≡ c .safe-at .result
 gap c =
     let e = c .before .before in
     let a = s e .args in
     let h : at e .loop .i < a .count = omega arith in
-    gap-next (a .road) (l e) (a .count) (omega arith) (leader (carrier e)) (at e .loop .i) h (at e .loop .inv .faultless)
-    ∙ sym (c .safe-at .ensures ∙ ap₂ (λ (r : Row) (b : Carrier). safeWith r (leader (carrier e)) b) (at e .before .row-in .ensures) (at e .loop .inv .behind-is h))
+    gap-next (a .row) (a .road) (l e) (a .count) (omega arith) (leader (carrier e)) (at e .loop .i) h (at e .loop .inv .faultless)
+    ∙ sym (c .safe-at .ensures ∙ ap (λ (b : Carrier). safeWith (a .row) (leader (carrier e)) b) (at e .loop .inv .behind-is h))
 
 returns-2 : tie.Need-returns-2 Inv-loop μ-loop
 returns-2 c =
@@ -146,12 +141,12 @@ returns-2 c =
 
 -- past both tests of the carrier
 gap-safe : (c : tie.Joined2 Inv-loop μ-loop) → let e = c .before in
-    safeFrom (rowIn (s e .args .road)) (leader (carrier e)) (slice (at e .loop .i) (s e .args .count) (l e)) ≡ true
+    safeFrom (s e .args .row) (leader (carrier e)) (slice (at e .loop .i) (s e .args .count) (l e)) ≡ true
 gap-safe c =
     let e = c .before in
     ⊎-elim
     (λ w. gap record { before = record { before = e; if2 = w .0 }; safe-at = w .1 } ∙ not-false _ (w .2 .left))
-    (λ w. gap-past (rowIn (s e .args .road)) (leader (carrier e)) (l e) (at e .loop .i) (s e .args .count) (omega (arith, w .left)))
+    (λ w. gap-past (s e .args .row) (leader (carrier e)) (l e) (at e .loop .i) (s e .args .count) (omega (arith, w .left)))
     (c .if2 .came)
 
 guaranteed-rate-requires : tie.Need-guaranteed-rate-requires Inv-loop μ-loop
@@ -215,8 +210,8 @@ loop-again c =
       places = length-set (at e .loop .next) _ _ ∙ inv .places;
       within = omega arith;
       faultless = turn (e .before) ∙ rw (e .if1 .left, gap-safe j, again (c .before), c .if4 .left) refl;
-      met = rw (← here) at (met-next (a .road) (l e) (a .count) (long e) (at e .loop .i) (omega arith) (omega arith) (at e .loop .first) (inv .met) (inv .sorts));
-      linked = rw (← here) at (linked-next (a .road) (l e) (a .count) (long e) (at e .loop .i) (omega arith) (omega arith) (at e .loop .first) (inv .met) (at e .loop .next) (omega (arith, inv .places, inv .within, s e .pre .0)) (inv .linked));
+      met = rw (← here) at (met-next (a .row) (a .road) (l e) (a .count) (long e) (at e .loop .i) (omega arith) (omega arith) (at e .loop .first) (inv .met) (inv .sorts));
+      linked = rw (← here) at (linked-next (a .row) (a .road) (l e) (a .count) (long e) (at e .loop .i) (omega arith) (omega arith) (at e .loop .first) (inv .met) (at e .loop .next) (omega (arith, inv .places, inv .within, s e .pre .0 .0)) (inv .linked));
       behind-is = λ h. here;
       stop-is = λ h. rw (rested .before .guaranteed-rate .ensures) at (rested .rest .ensures);
     }
@@ -234,7 +229,6 @@ any-fault-spec =
     Inv-loop
     μ-loop
     no-carrier-requires
-    row-in-requires
     loop-holds
     sub-i
     carrier-at-requires

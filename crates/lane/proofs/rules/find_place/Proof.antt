@@ -6,10 +6,11 @@ use borrow.Author.Tests.{eq-eqb, ne-eqb}
 use lib.Dec.{ltb}
 use lib.ListN.{take}
 use lib.Seq.{length-take-le}
-use Rattle.lane.specs.Layout.{recordsIn, stateWith, stateOf}
-use Rattle.lane.specs.Calls.{walk, placeNo}
+use Rattle.lane.specs.Layout.{tablesIn, recordsIn, stateWith, stateOf}
+use Rattle.lane.specs.Calls.{none, walk, placeNo}
 use Rattle.lane.proofs.lists.Search.{place-le}
-use Rattle.lane.proofs.checks.Soundness.{Sound, sound-with, sound-road-holds, faultless-holds}
+use Rattle.lane.proofs.checks.Soundness.{Sound, row-sound, sound-with, sound-road-holds, newcomer-fit, fit-narrow, fit-of}
+use Rattle.lane.proofs.checks.Surfaces.{row-brakes}
 use Rattle.lane.proofs.checks.Checks.{place-checks, refused-as, accepted-as}
 use Rattle.lane.proofs.rules.find_place.Statement.{statement}
 use Rattle.lane.proofs.rules.find_place.Tie as tie
@@ -18,7 +19,7 @@ figures-of-requires : tie.Need-figures-of-requires
 figures-of-requires c κs = search needs
 
 -- what the figures and the records have
-known : (c : tie.After-figures-of) → Sound (stateWith (c .figures-of .result) (recordsIn (c .before .args .l .now)))
+known : (c : tie.After-figures-of) → Sound (stateWith (c .figures-of .result) (tablesIn (c .before .args .l .now)) (recordsIn (c .before .args .l .now)))
 known c = sound-with _ _ (c .figures-of .ensures .0) (c .before .pre .0)
 
 refused-requires : tie.Need-refused-requires
@@ -49,28 +50,38 @@ returns-2 c =
 entry-place-requires : tie.Need-entry-place-requires
 entry-place-requires c κs = known (c .before .before .before .before) .count
 
+row-in-requires : tie.Need-row-in-requires
+row-in-requires c κs =
+    let at = c .before .before .before .before .before in
+    let s = known at in
+    (sound-road-holds (at .figures-of .result .road) (s .road), s .in-force)
+
 gap-refusal-requires : tie.Need-gap-refusal-requires
 unfolding walk
 gap-refusal-requires c κs =
-    let at = c .before .before .before .before .before in
+    let at = c .before .before .before .before .before .before in
     let a = at .before .args in
     let f = at .figures-of .result in
     let l = recordsIn (a .l .now) in
     let s = known at in
     let few = length-take-le (f .count) l (omega arith) in
-    let end = place-le (λ k. ltb (k .position) (a .c .position)) (take (f .count) l) in (
-      (omega (arith, c .entry-place .ensures), (s .count, at .figures-of .ensures .1)),
-      (sound-road-holds (f .road) (s .road), (rw (at .figures-of .ensures .0) (at .before .pre .1), faultless-holds (f .road) (take (f .count) l) (s .carriers))),
+    let end = place-le (λ k. ltb (k .position) (a .c .position)) (take (f .count) l) in
+    let new = fit-narrow (f .road) (a .c) (s .road) (newcomer-fit (f .road) (a .c) (rw (at .figures-of .ensures .0) (at .before .pre .1))) in (
+      (omega (arith, c .before .entry-place .ensures), (s .count, at .figures-of .ensures .1)),
+      (
+        (rw (c .row-in .ensures) (row-brakes _ (row-sound s)), (new .position, new .speed)),
+        λ i h. let n = fit-narrow (f .road) _ (s .road) (fit-of (f .road) l (f .count) i none (s .carriers) h (omega (arith, s .count))) in (n .position, n .speed),
+      ),
     )
 
 -- past 22 and 23 the gap decides
-gap-decides : (c : tie.After-gap-refusal) → let a = c .before .before .before .before .before .before .before .args in placeNo (stateOf (a .l .now)) (a .c) ≡ c .gap-refusal .result
+gap-decides : (c : tie.After-gap-refusal) → let a = c .before .before .before .before .before .before .before .before .args in placeNo (stateOf (a .l .now)) (a .c) ≡ c .gap-refusal .result
 gap-decides c =
-    let new = c .before .before in
+    let new = c .before .before .before in
     let at = new .before .before .before .before in
     let a = at .before .args in
     place-checks (a .l .now) _ (at .figures-of .ensures .0) (a .c)
-    ∙ rw (ne-eqb _ _ (new .before .before .if1 .left), ← new .before .numbered-from .ensures, new .if2 .left, ← c .before .entry-place .ensures, ← c .gap-refusal .ensures) refl
+    ∙ rw (ne-eqb _ _ (new .before .before .if1 .left), ← new .before .numbered-from .ensures, new .if2 .left, ← c .before .before .entry-place .ensures, ← c .before .row-in .ensures, ← c .gap-refusal .ensures) refl
 
 refused-requires-3 : tie.Need-refused-requires-3
 refused-requires-3 c κs = search needs
@@ -80,8 +91,8 @@ returns-3 c = refused-as _ _ _ _ (gap-decides (c .before .before)) (c .before .i
 
 returns-4 : tie.Need-returns-4
 returns-4 c =
-    let at = c .before .before .before .before .before .before .before in
-    accepted-as _ _ _ (gap-decides (c .before) ∙ c .if3 .left) (rw (at .figures-of .ensures .0) at (c .before .before .entry-place .ensures))
+    let at = c .before .before .before .before .before .before .before .before in
+    accepted-as _ _ _ (gap-decides (c .before) ∙ c .if3 .left) (rw (at .figures-of .ensures .0) at (c .before .before .before .entry-place .ensures))
 
 pub find-place-spec : {M : Type 1} → statement M
 find-place-spec =
@@ -94,6 +105,7 @@ find-place-spec =
     refused-requires-2
     returns-2
     entry-place-requires
+    row-in-requires
     gap-refusal-requires
     refused-requires-3
     returns-3

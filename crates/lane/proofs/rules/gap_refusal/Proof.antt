@@ -9,17 +9,12 @@ use borrow.Author.Tests.{not-false, lt-ltb, le-ltb}
 use lib.Dec.{ltb}
 use lib.ListN.{length, getD, take}
 use lib.Seq.{getD-take, length-take-le}
-use Rattle.lane.specs.Surface.{rowIn}
 use Rattle.lane.specs.Layout.{recordsIn}
 use Rattle.lane.specs.Safety.{leader, safeWith}
 use Rattle.lane.specs.Calls.{none, aheadOf, gapNo}
-use Rattle.lane.proofs.checks.Soundness.{Fit, sound-road, newcomer-fit, faultless, fit-of}
-use Rattle.lane.proofs.checks.Gaps.{pair-narrow, ahead-is, ahead-nobody}
+use Rattle.lane.proofs.checks.Gaps.{ahead-is, ahead-nobody}
 use Rattle.lane.proofs.rules.gap_refusal.Statement.{statement}
 use Rattle.lane.proofs.rules.gap_refusal.Tie as tie
-
-row-in-requires : tie.Need-row-in-requires
-row-in-requires c κs = search needs
 
 sub-carrier-at : tie.Need-sub-carrier-at
 sub-carrier-at c = search needs
@@ -29,24 +24,20 @@ carrier-at-requires c κs = search needs
 
 safe-requires : tie.Need-safe-requires
 safe-requires c κs =
-    let at = c .before .before in
-    let s = at .before in
-    let a = s .args in
-    let ahead : Fit (a .road) (c .carrier-at .result) =
-    rw (c .carrier-at .ensures) (fit-of (a .road) (recordsIn (a .l .now)) (a .count) (a .place - 1) none (faultless _ _ (s .pre .1 .1 .1)) (omega arith) (omega arith)) in
-    pair-narrow (a .road) _ _ _ (sound-road _ (s .pre .1 .0)) (at .row-in .ensures) ahead (newcomer-fit _ _ (s .pre .1 .1 .0))
+    let s = c .before .before in
+    let own = s .pre .1 .0 in
+    (own .0, (own .1 .0, (own .1 .1, rw (c .carrier-at .ensures) (s .pre .1 .1 (s .args .place - 1) (omega arith)))))
 
 -- the first test, where someone is ahead
-ahead-tested : (c : tie.After-safe) → let a = c .before .before .before .before .args in
-    safeWith (rowIn (a .road)) (aheadOf (a .place) (take (a .count) (recordsIn (a .l .now)))) (a .c) ≡ c .safe .result
+ahead-tested : (c : tie.After-safe) → let a = c .before .before .before .args in
+    safeWith (a .row) (aheadOf (a .place) (take (a .count) (recordsIn (a .l .now)))) (a .c) ≡ c .safe .result
 ahead-tested c =
     let at = c .before .before in
-    let a = at .before .before .args in
+    let a = at .before .args in
     rw (
       ahead-is (recordsIn (a .l .now)) (a .count) (a .place) (at .if1 .taken) (omega arith),
       c .safe .ensures,
       c .before .carrier-at .ensures,
-      at .before .row-in .ensures,
     )
     refl
 
@@ -55,11 +46,11 @@ unfolding gapNo
 returns c = rw (ahead-tested (c .before), c .if2 .taken) refl
 
 -- past the first test, whichever way
-ahead-safe : (c : tie.Joined1) → let a = c .before .before .args in
-    safeWith (rowIn (a .road)) (aheadOf (a .place) (take (a .count) (recordsIn (a .l .now)))) (a .c) ≡ true
+ahead-safe : (c : tie.Joined1) → let a = c .before .args in
+    safeWith (a .row) (aheadOf (a .place) (take (a .count) (recordsIn (a .l .now)))) (a .c) ≡ true
 unfolding safeWith
 ahead-safe c =
-    let a = c .before .before .args in
+    let a = c .before .args in
     ⊎-elim
     (λ w. ahead-tested record { before = record { before = record { before = c .before; if1 = w .0 }; carrier-at = w .1 }; safe = w .2 } ∙ not-false _ (w .3 .left))
     (λ w. rw (ahead-nobody (recordsIn (a .l .now)) (a .count) (a .place) (w .left)) refl)
@@ -70,19 +61,17 @@ carrier-at-requires-2 c κs = search needs
 
 safe-requires-2 : tie.Need-safe-requires-2
 safe-requires-2 c κs =
-    let at = c .before .before .before in
-    let s = at .before in
-    let a = s .args in
-    let behind : Fit (a .road) (c .carrier-at2 .result) =
-    rw (c .carrier-at2 .ensures) (fit-of (a .road) (recordsIn (a .l .now)) (a .count) (a .place) none (faultless _ _ (s .pre .1 .1 .1)) (omega arith) (omega arith)) in
-    pair-narrow (a .road) _ _ _ (sound-road _ (s .pre .1 .0)) (at .row-in .ensures) (newcomer-fit _ _ (s .pre .1 .1 .0)) behind
+    let s = c .before .before .before in
+    let own = s .pre .1 .0 in
+    let behind = rw (← c .carrier-at2 .ensures) at (s .pre .1 .1 (s .args .place) (omega arith)) in
+    (own .0, (behind .0, (behind .1, own .1)))
 
 -- the second test, where someone is behind
-behind-tested : (c : tie.After-safe2) → let a = c .before .before .before .before .before .args in let cs = take (a .count) (recordsIn (a .l .now)) in
-    ltb (a .place) (length cs) && not (safeWith (rowIn (a .road)) (leader (a .c)) (getD cs (a .place) none)) ≡ not (c .safe2 .result)
+behind-tested : (c : tie.After-safe2) → let a = c .before .before .before .before .args in let cs = take (a .count) (recordsIn (a .l .now)) in
+    ltb (a .place) (length cs) && not (safeWith (a .row) (leader (a .c)) (getD cs (a .place) none)) ≡ not (c .safe2 .result)
 behind-tested c =
     let at = c .before .before in
-    let a = at .before .before .before .args in
+    let a = at .before .before .args in
     let l = recordsIn (a .l .now) in
     rw (
       length-take-le (a .count) l (omega arith),
@@ -90,7 +79,6 @@ behind-tested c =
       getD-take (a .count) l (a .place) none (at .if3 .taken),
       c .safe2 .ensures,
       c .before .carrier-at2 .ensures,
-      at .before .before .row-in .ensures,
     )
     refl
 
@@ -105,14 +93,13 @@ returns-3 c = rw (ahead-safe (c .before .before .before .before), behind-tested 
 returns-4 : tie.Need-returns-4
 unfolding gapNo
 returns-4 c =
-    let a = c .before .before .before .args in
+    let a = c .before .before .args in
     rw (ahead-safe (c .before), length-take-le (a .count) (recordsIn (a .l .now)) (omega arith), le-ltb _ _ (c .if3 .left)) refl
 
 pub gap-refusal-spec : {M : Type 1} → statement M
 gap-refusal-spec =
     tie.close
     (tie.spec
-    row-in-requires
     sub-carrier-at
     carrier-at-requires
     safe-requires
