@@ -104,9 +104,9 @@ pub fn unsound_lane(random: &mut Random) -> Lane {
         lane = sound_lane(random);
     }
     match random.below(10) {
-        0..=3 => widen(random, &mut lane),
-        4 => lane.tables.in_force = unsound_table(random),
-        5 => lane.tables.for_next_start = unsound_table(random),
+        0..=2 => widen(random, &mut lane),
+        3..=4 => lane.tables.in_force = unsound_table(random),
+        5..=6 => lane.tables.for_next_start = unsound_table(random),
         _ => overstep(random, &mut lane),
     }
     lane
