@@ -29,6 +29,15 @@ impl Row {
         }
     }
 
+    /// b, B and A.
+    pub fn figures(&self) -> [u64; 3] {
+        [
+            self.guaranteed_braking,
+            self.hardest_braking,
+            self.most_acceleration,
+        ]
+    }
+
     /// Whether stops can be reckoned with the row.
     pub fn is_sound(&self) -> bool {
         (*RATES.start()..=self.hardest_braking).contains(&self.guaranteed_braking)

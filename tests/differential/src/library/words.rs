@@ -77,12 +77,7 @@ pub fn plain(lane: &Lane) -> Words {
 
 fn put_table(words: &mut Words, first: usize, table: &Table) {
     for (words, row) in words[first..].iter_mut().zip(table.0) {
-        let figures = [
-            row.guaranteed_braking,
-            row.hardest_braking,
-            row.most_acceleration,
-        ];
-        words[..FIGURES_OF_ROW].copy_from_slice(&figures);
+        words[..FIGURES_OF_ROW].copy_from_slice(&row.figures());
     }
 }
 

@@ -8,11 +8,11 @@ use crate::text::LONGEST_LINE;
 
 /// The text of a table.
 pub fn table_text(table: &Table) -> Vec<u8> {
-    let line = |row: &Row| {
-        let (b, hardest) = (row.guaranteed_braking, row.hardest_braking);
-        format!("b={b}\nB={hardest}\nA={}\n", row.most_acceleration)
+    let lines = |row: &Row| {
+        let [b, hardest, most] = row.figures();
+        format!("b={b}\nB={hardest}\nA={most}\n")
     };
-    table.0.iter().map(line).collect::<String>().into_bytes()
+    table.0.iter().map(lines).collect::<String>().into_bytes()
 }
 
 /// A text to load, mostly one that is accepted.
