@@ -2,6 +2,7 @@
 
 use crate::call::Call;
 use crate::sample::{carrier, road, Sample};
+use crate::surface::{figures, rows};
 use crate::{library, reference};
 use lane_reference::Refusal;
 
@@ -42,6 +43,7 @@ fn by_library(call: Call, sample: &mut Sample) -> (u32, Vec<u64>) {
             let answer = library::lane_text(sample);
             (answer.no, vec![answer.length as u64])
         }
+        Call::Load => (library::load(sample), vec![]),
     }
 }
 
@@ -59,15 +61,19 @@ fn by_reference(call: Call, sample: &mut Sample) -> Result<Vec<u64>, Refusal> {
             [reading.position, reading.speed].map(f64::to_bits).to_vec()
         }
         Call::LaneText => vec![reference::lane_text(sample)? as u64],
+        Call::Load => reference::load(sample).map(|()| vec![])?,
     })
 }
 
 fn lanes_agree(call: Call, sample: &Sample) {
     let (ours, theirs) = (&sample.lanes.library, &sample.lanes.reference.0);
-    let figures = (ours.started, ours.road, ours.cycle, ours.count);
+    let head = (ours.started, ours.road, ours.cycle, ours.count);
     let road = road(theirs.road);
     let expected = (theirs.started.into(), road, theirs.cycle, theirs.count);
-    assert_eq!(figures, expected, "{}", call.name());
+    assert_eq!(head, expected, "{}", call.name());
+    for (row, expected) in rows(ours).iter().zip(figures(&theirs.tables)) {
+        assert_eq!(row[..expected.len()], expected, "{}", call.name());
+    }
     for (record, &expected) in ours.records.iter().zip(theirs.present()) {
         assert_eq!(record.carrier, carrier(expected), "{}", call.name());
     }

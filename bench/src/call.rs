@@ -1,5 +1,6 @@
 //! The calls that are measured.
 
+use crate::sample::CARRIERS;
 use std::hint::black_box;
 
 #[derive(Clone, Copy, PartialEq, Eq)]
@@ -10,16 +11,18 @@ pub enum Call {
     Cycle,
     Read,
     LaneText,
+    Load,
 }
 
 impl Call {
-    pub const ALL: [Call; 6] = [
+    pub const ALL: [Call; 7] = [
         Call::Start,
         Call::Enter,
         Call::Leave,
         Call::Cycle,
         Call::Read,
         Call::LaneText,
+        Call::Load,
     ];
 
     pub fn name(self) -> &'static str {
@@ -30,6 +33,16 @@ impl Call {
             Call::Cycle => "cycle",
             Call::Read => "read",
             Call::LaneText => "lane text",
+            Call::Load => "load",
+        }
+    }
+
+    /// The numbers of carriers that the call is measured with. A load is
+    /// accepted on a lane without any alone.
+    pub fn carriers(self) -> &'static [usize] {
+        match self {
+            Call::Load => &[0],
+            _ => &CARRIERS,
         }
     }
 }

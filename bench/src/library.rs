@@ -4,14 +4,19 @@ use crate::call::{consume, Call};
 use crate::sample::{carrier, Sample};
 use rondavitse::binding::*;
 
+extern "C" {
+    fn rondavitse_load(lane: *mut Lane, text: *const u8, text_length: usize) -> u32;
+}
+
 /// The functions of a call by their symbols.
-pub const SYMBOLS: [&str; 6] = [
+pub const SYMBOLS: [&str; 7] = [
     "rondavitse_start",
     "rondavitse_enter",
     "rondavitse_leave",
     "rondavitse_cycle",
     "rondavitse_read",
     "rondavitse_lane_text",
+    "rondavitse_load",
 ];
 
 pub fn run(call: Call) -> fn(&mut Sample) {
@@ -22,6 +27,7 @@ pub fn run(call: Call) -> fn(&mut Sample) {
         Call::Cycle => |sample| consume(cycle(sample)),
         Call::Read => |sample| consume(read(sample)),
         Call::LaneText => |sample| consume(lane_text(sample)),
+        Call::Load => |sample| consume(load(sample)),
     }
 }
 
@@ -53,4 +59,9 @@ pub fn read(sample: &mut Sample) -> ReadOut {
 pub fn lane_text(sample: &mut Sample) -> Listed {
     let text = &mut sample.text;
     unsafe { rondavitse_lane_text(&sample.lanes.library, text.as_mut_ptr(), text.len()) }
+}
+
+pub fn load(sample: &mut Sample) -> u32 {
+    let table = &sample.table;
+    unsafe { rondavitse_load(&mut sample.lanes.library, table.as_ptr(), table.len()) }
 }

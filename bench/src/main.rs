@@ -9,6 +9,7 @@ mod library;
 mod reference;
 mod sample;
 mod stack;
+mod surface;
 mod table;
 mod throughput;
 mod timing;

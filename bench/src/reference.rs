@@ -6,13 +6,14 @@ use crate::sample::Sample;
 use lane_reference::{Carrier, Cycled, FastLane, Reading, Refusal, Road, Supervisor};
 
 /// The functions of a call by their symbols.
-pub const SYMBOLS: [&str; 6] = [
+pub const SYMBOLS: [&str; 7] = [
     "reference_start",
     "reference_enter",
     "reference_leave",
     "reference_cycle",
     "reference_read",
     "reference_lane_text",
+    "reference_load",
 ];
 
 pub fn run(call: Call) -> fn(&mut Sample) {
@@ -23,6 +24,7 @@ pub fn run(call: Call) -> fn(&mut Sample) {
         Call::Cycle => |sample| consume(cycle(sample)),
         Call::Read => |sample| consume(read(sample)),
         Call::LaneText => |sample| consume(lane_text(sample)),
+        Call::Load => |sample| consume(load(sample)),
     }
 }
 
@@ -52,6 +54,10 @@ pub fn read(sample: &mut Sample) -> Result<Reading, Refusal> {
 
 pub fn lane_text(sample: &mut Sample) -> Result<usize, Refusal> {
     reference_lane_text(&sample.lanes.reference, &mut sample.text)
+}
+
+pub fn load(sample: &mut Sample) -> Result<(), Refusal> {
+    reference_load(&mut sample.lanes.reference, &sample.table)
 }
 
 #[no_mangle]
@@ -93,4 +99,10 @@ fn reference_read(lane: &FastLane, number: u64) -> Result<Reading, Refusal> {
 #[inline(never)]
 fn reference_lane_text(lane: &FastLane, text: &mut [u8]) -> Result<usize, Refusal> {
     lane.lane_text(text)
+}
+
+#[no_mangle]
+#[inline(never)]
+fn reference_load(lane: &mut FastLane, text: &[u8]) -> Result<(), Refusal> {
+    lane.load(text)
 }

@@ -42,7 +42,7 @@ pub fn print_costs(instructions: &[Sides], times: &[Sides]) {
     println!("|---|---:|---:|---:|---:|---:|---:|---:|");
     for (place, call) in Call::ALL.into_iter().enumerate() {
         let costs = of(instructions, place).into_iter().zip(of(times, place));
-        for (carriers, (counted, timed)) in CARRIERS.into_iter().zip(costs) {
+        for (carriers, (counted, timed)) in call.carriers().iter().zip(costs) {
             let (counted, timed) = (counted.cells(), timed.cells());
             println!("| {} | {carriers} | {counted} | {timed} |", call.name());
         }
@@ -62,6 +62,9 @@ pub fn print_growth(costs: &[Sides]) {
     println!("| call | {} |", heads.join(" | "));
     println!("|---|{}", "---:|".repeat(2 * steps.len()));
     for (place, call) in Call::ALL.into_iter().enumerate() {
+        if call.carriers() != CARRIERS {
+            continue;
+        }
         let costs = of(costs, place);
         let (library, reference) = (
             added(&costs, |cost| cost.library),

@@ -17,6 +17,7 @@ use crate::tally::Tally;
 use crate::texts;
 use case::Case;
 use lane_reference::random::Random;
+use lane_reference::Lane;
 use std::fs;
 use std::time::Instant;
 
@@ -63,10 +64,10 @@ fn check_case(case: &Case, tally: &mut Tally) {
     }
 }
 
-/// All words of the empty lane are 0, as the header says.
+/// Of the empty lane all words but those of the house rows are 0.
 fn check_empty(tally: &mut Tally) {
     let empty = host::empty();
-    if empty.iter().flatten().any(|&word| word != 0) {
+    if empty != words::plain(&Lane::default()) {
         tally.differs(&format!("the empty lane is {empty:?}"), "none");
     }
 }

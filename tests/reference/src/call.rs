@@ -29,6 +29,10 @@ pub enum Call {
     LaneText {
         room: usize,
     },
+    /// The rows for the next start, as table text.
+    Load {
+        text: Vec<u8>,
+    },
 }
 
 /// The answer of a call that was not refused.
@@ -41,4 +45,5 @@ pub enum Answer {
     Cycled(Cycled),
     Read(Reading),
     LaneText(Vec<u8>),
+    Loaded,
 }

@@ -26,7 +26,7 @@ impl Carrier {
     }
 
     /// The acceleration of one cycle of braking at `rate`: −(smaller of rate and speed).
-    pub fn braking(self, rate: u32) -> i32 {
-        -(self.speed.min(rate.into()) as i32)
+    pub fn braking(self, rate: u64) -> i32 {
+        -(self.speed.min(rate) as i32)
     }
 }

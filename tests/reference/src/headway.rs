@@ -4,11 +4,11 @@ use crate::carrier::Carrier;
 use crate::stopping::Stopping;
 use crate::surface::Row;
 
-/// Where a carrier that brakes at `rate` from now on comes to rest. It keeps
-/// a speed limit, so 32 bits hold its speed.
-pub fn rest<S: Stopping>(carrier: Carrier, rate: u32) -> u64 {
-    debug_assert!(carrier.speed <= u32::MAX.into());
-    carrier.position + S::distance(rate, carrier.speed as u32)
+/// Where a carrier that brakes at `rate` from now on comes to rest. The rate
+/// is of a sound row and the speed within a limit, so 32 bits hold them.
+pub fn rest<S: Stopping>(carrier: Carrier, rate: u64) -> u64 {
+    debug_assert!(carrier.speed.max(rate) <= u32::MAX.into());
+    carrier.position + S::distance(rate as u32, carrier.speed as u32)
 }
 
 /// Whether the follower is behind the leader, and would also rest behind it

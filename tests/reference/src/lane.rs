@@ -12,6 +12,7 @@ pub use rules::NUMBERS;
 
 use crate::road::Road;
 use crate::stopping::{Fast, Summed};
+use crate::surface::{Table, Tables};
 
 /// The most carriers a lane holds.
 pub const PLACES: usize = 64;
@@ -25,17 +26,22 @@ pub struct Lane {
     pub cycle: u64,
     /// How many of `carriers` are present, front to back; the rest is idle.
     pub count: u64,
+    pub tables: Tables,
     pub carriers: [Carrier; PLACES],
 }
 
 impl Default for Lane {
-    /// A lane never started.
+    /// A lane never started, with the house rows.
     fn default() -> Lane {
         Lane {
             started: false,
             road: Road::default(),
             cycle: 0,
             count: 0,
+            tables: Tables {
+                in_force: Table::HOUSE,
+                for_next_start: Table::HOUSE,
+            },
             carriers: [Carrier::default(); PLACES],
         }
     }

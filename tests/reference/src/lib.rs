@@ -28,4 +28,5 @@ pub use carrier::Carrier;
 pub use lane::{Cycled, FastLane, Lane, Reading, Supervisor, PLACES};
 pub use refusal::Refusal;
 pub use road::Road;
+pub use surface::{Row, Table, Tables};
 pub use wish::Wish;

@@ -86,6 +86,6 @@ fn answered(answer: Answer) -> Vec<u8> {
         )
         .into_bytes(),
         Answer::LaneText(text) => [b"ok=show\n".as_slice(), &text].concat(),
-        Answer::Read(_) => unreachable!("no call text asks for a reading"),
+        Answer::Read(_) | Answer::Loaded => unreachable!("no call text reads or loads"),
     }
 }

@@ -8,16 +8,20 @@ mod entries;
 mod histories;
 mod lanes;
 mod programs;
+mod table_texts;
+mod tables;
 mod wide;
 mod wishes;
 
 pub use breaks::{break_line, LineBreak, Part, TextBreak, LINE_BREAKS, TEXT_BREAKS};
-pub use calls::{call, Weights, EVEN};
-pub use histories::{history, History};
-pub use lanes::{empty_lane, sound_lane, unsound_lane};
+pub use calls::{call, Weights, CYCLES, EVEN, LOADS};
+pub use histories::{calls_on, calls_on_empty, history, History};
+pub use lanes::{empty_lane, lane_with, never_started_lane, sound_lane, unsound_lane};
 pub use programs::{
     call_text, garbled_program, longest_program, malformed_program, oversize_program, program,
 };
+pub use table_texts::{malformed_table_text, table_text, TABLE_BREAKS};
+pub use tables::{sound_table, unsound_table};
 pub use wide::widened;
 pub use wishes::FLOAT_EDGES;
 

@@ -28,6 +28,9 @@ pub enum Refusal {
     FollowerUnsafe = 26,
     CountDiffers = 27,
     CyclesExhausted = 28,
+    /// Of a table text: malformed, or a row that is not sound.
+    TableFaulty = 31,
+    CarriersPresent = 32,
 }
 
 impl Refusal {

@@ -1,7 +1,7 @@
 //! What a start gives of the road, and the ranges it must keep to.
 
 use crate::refusal::Refusal;
-use crate::surface::{self, Row};
+use crate::surface::{Row, Table};
 use std::ops::RangeInclusive;
 
 /// Where a lane may end.
@@ -19,9 +19,9 @@ pub struct Road {
 }
 
 impl Road {
-    /// The surface's row, if every figure keeps its range.
-    pub fn row(&self) -> Result<&'static Row, Refusal> {
-        let row = surface::row(self.surface).ok_or(Refusal::SurfaceUnknown)?;
+    /// The surface's row of `table`, if every figure keeps its range.
+    pub fn row(&self, table: &Table) -> Result<Row, Refusal> {
+        let row = table.row(self.surface).ok_or(Refusal::SurfaceUnknown)?;
         Refusal::EndOutOfRange.when(!ENDS.contains(&self.end))?;
         Refusal::LimitOutOfRange.when(!LIMITS.contains(&self.limit))?;
         Ok(row)

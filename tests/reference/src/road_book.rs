@@ -13,30 +13,34 @@ use crate::call::Call;
 use crate::carrier::Carrier;
 use crate::lane::{Lane, PLACES};
 use crate::road::Road;
-use crate::surface::{self, Row};
+use crate::surface::{Row, Tables};
+use crate::text;
 use crate::wish::Wish;
 
 /// What keeps an implementation from passing, in words.
 pub type Breach = String;
 
-/// Surface, end, limit and the carriers front to back.
+/// Surface, end, limit, both tables and the carriers front to back.
 #[derive(Clone, Debug, PartialEq, Eq)]
 pub struct RoadBook {
     pub road: Road,
+    pub tables: Tables,
     pub carriers: Vec<Carrier>,
 }
 
 impl RoadBook {
-    /// The book of a history that begins with `first`, a lane without carriers.
-    pub fn new(first: &Lane) -> RoadBook {
+    /// What a book holds that agrees with `lane`; a history's begins with that
+    /// of its first lane, which has no carriers.
+    pub fn of(lane: &Lane) -> RoadBook {
         RoadBook {
-            road: first.road,
-            carriers: Vec::new(),
+            road: lane.road,
+            tables: lane.tables,
+            carriers: lane.present().to_vec(),
         }
     }
 
     /// Takes a call into the book. A cycle that ran although the book knows
-    /// no row or no units for it is a breach.
+    /// no row or no units for it is a breach, and so is a load of no table.
     pub fn record(&mut self, call: &Call, refused: bool, word: u64) -> Result<(), Breach> {
         if refused {
             return Ok(());
@@ -44,6 +48,7 @@ impl RoadBook {
         match *call {
             Call::Start { road, .. } => {
                 self.road = road;
+                self.tables.in_force = self.tables.for_next_start;
                 self.carriers.clear();
             }
             Call::Enter(newcomer) => self.enter(newcomer),
@@ -53,6 +58,10 @@ impl RoadBook {
                 self.carriers = drives.iter().map(Drive::end).collect();
                 let end = self.road.end;
                 self.carriers.retain(|carrier| carrier.position < end);
+            }
+            Call::Load { ref text } => {
+                let table = text::table(text);
+                self.tables.for_next_start = table.map_err(|_| "no table was loaded")?;
             }
             Call::Read { .. } | Call::LaneText { .. } => (),
         }
@@ -82,15 +91,17 @@ impl RoadBook {
         let pairs = self.carriers.iter().zip(wishes);
         pairs
             .map(|(&carrier, wish)| {
-                wish.trimmed(row, self.road.limit, carrier)
+                wish.trimmed(&row, self.road.limit, carrier)
                     .ok_or_else(|| format!("a cycle ran on {wish:08X?}"))
             })
             .collect()
     }
 
-    fn row(&self) -> Result<&'static Row, Breach> {
+    /// The row in force; with none, or an unsound one, no cycle can have run.
+    fn row(&self) -> Result<Row, Breach> {
         let surface = self.road.surface;
-        surface::row(surface).ok_or_else(|| format!("a cycle ran on surface {surface}"))
+        let row = self.tables.in_force.row(surface).filter(Row::is_sound);
+        row.ok_or_else(|| format!("a cycle ran on surface {surface}"))
     }
 
     /// The walk goes front to back to the first carrier with a lower position.

@@ -1,10 +1,11 @@
-//! Call texts: blocks of `key=value` lines in fixed order.
+//! Call texts and table texts: `key=value` lines in fixed order.
 
 use crate::call::Call;
 use crate::carrier::Carrier;
 use crate::lane::{LONGEST_LANE_TEXT, PLACES};
 use crate::refusal::Refusal;
 use crate::road::Road;
+use crate::surface::{Row, Table, SURFACES};
 use crate::wish::Wish;
 
 /// The most bytes of a line, with its newline.
@@ -46,6 +47,17 @@ pub fn block(text: &[u8]) -> Result<(Call, &[u8]), Refusal> {
     Ok((call, lines.rest))
 }
 
+/// Reads a table text: the rows in the order of their codes and nothing else.
+pub fn table(text: &[u8]) -> Result<Table, Refusal> {
+    let mut lines = Lines { rest: text };
+    let mut rows = [Row::default(); SURFACES];
+    for row in &mut rows {
+        *row = lines.row()?;
+    }
+    Refusal::TextMalformed.when(!lines.rest.is_empty())?;
+    Ok(Table(rows))
+}
+
 /// The lines still to be read.
 struct Lines<'a> {
     rest: &'a [u8],
@@ -78,6 +90,14 @@ impl<'a> Lines<'a> {
             number: self.number::<u16>("car")?,
             position: self.number::<u32>("at")?,
             speed: self.number::<u32>("speed")?,
+        })
+    }
+
+    fn row(&mut self) -> Result<Row, Refusal> {
+        Ok(Row {
+            guaranteed_braking: self.number::<u64>("b")?,
+            hardest_braking: self.number::<u64>("B")?,
+            most_acceleration: self.number::<u64>("A")?,
         })
     }
 

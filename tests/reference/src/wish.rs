@@ -72,7 +72,7 @@ impl Wish {
     pub fn trimmed(self, row: &Row, limit: u64, carrier: Carrier) -> Option<i32> {
         let lowest = i64::from(carrier.braking(row.hardest_braking));
         let to_limit = limit as i64 - carrier.speed as i64;
-        let highest = to_limit.min(row.most_acceleration.into());
+        let highest = to_limit.min(row.most_acceleration as i64);
         Some(self.units(carrier.speed)?.max(lowest).min(highest) as i32)
     }
 }

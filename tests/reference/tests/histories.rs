@@ -4,7 +4,7 @@ mod common;
 
 use common::{carrier, example_lane, wishes};
 use lane_reference::random::{
-    call, history, sound_lane, unsound_lane, widened, History, Random, EVEN,
+    call, history, sound_lane, unsound_lane, widened, History, Random, CYCLES, EVEN, LOADS,
 };
 use lane_reference::road_book::{check_history, Checker, Drive};
 use lane_reference::stopping::{Fast, Summed};
@@ -56,9 +56,9 @@ fn histories_reach_every_refusal_and_every_answer() {
             full += u32::from(lane.0.count == 64);
         }
     }
-    let every = (1..=7).chain([9]).chain(21..=28).collect();
+    let every = (1..=7).chain([9]).chain(21..=28).chain([31, 32]).collect();
     assert_eq!(refusals, every);
-    assert_eq!(sorts.len(), 5, "{sorts:?}");
+    assert_eq!(sorts.len(), 6, "{sorts:?}");
     assert!(full > 1_000 && gone > 1_000 && replaced > 10_000 && last_bit > 100);
 }
 
@@ -72,19 +72,58 @@ fn lanes_handed_in_are_judged() {
         let unsound = unsound_lane(&mut random);
         assert!(unsound.sound_row::<Fast>().is_err(), "{unsound:?}");
         for lane in [sound, unsound] {
-            let call = call(&mut random, &lane, &EVEN);
+            let weights = random.pick(&[EVEN, LOADS]);
+            let call = call(&mut random, &lane, &weights);
             let mut after = FastLane(lane);
             let answer = after.call(&call);
             if answer.is_err() {
                 assert_eq!(after.0, lane, "{call:?}");
-            } else {
+            } else if lane.started || call_starts(&call) {
                 assert!(after.0.sound_row::<Fast>().is_ok(), "{call:?} on {lane:?}");
             }
-            if lane == unsound && !matches!(call, Call::Start { .. }) {
+            if lane == unsound && !exempt(&lane, &call) {
                 assert_eq!(answer, Err(Refusal::LaneUnsound), "{call:?}");
             }
         }
     }
+}
+
+fn call_starts(call: &Call) -> bool {
+    matches!(call, Call::Start { .. })
+}
+
+/// Whether a lane may be unsound and the call yet be accepted: a start looks
+/// at the rows that it puts in force, and a load on a lane never started at none.
+fn exempt(lane: &Lane, call: &Call) -> bool {
+    match call {
+        Call::Start { .. } => lane.tables.for_next_start.is_sound(),
+        Call::Load { .. } => !lane.started,
+        _ => false,
+    }
+}
+
+/// Cycles that run with carriers on rows that a terminal loaded, and wishes
+/// that are replaced there.
+#[test]
+fn histories_go_on_with_loaded_rows() {
+    let (mut cycles, mut replaced, mut full) = (0, 0, 0);
+    for seed in 0..300 {
+        let History { first, calls } = history(&mut Random::new(seed), 130);
+        let (mut lane, mut loaded, mut in_force) = (FastLane(first), false, false);
+        for call in &calls {
+            match lane.call(call) {
+                Ok(Answer::Loaded) => loaded = true,
+                Ok(Answer::Started) => in_force = loaded,
+                Ok(Answer::Cycled(cycled)) if in_force && lane.0.count > 1 => {
+                    cycles += 1;
+                    replaced += cycled.replaced;
+                    full += u32::from(lane.0.count == 64);
+                }
+                _ => (),
+            }
+        }
+    }
+    assert!(cycles > 1_000 && replaced > 5_000 && full > 100);
 }
 
 /// No text can hold such arguments, and no call accepts them.
@@ -101,7 +140,7 @@ fn arguments_above_their_width_are_refused() {
             Call::Start { .. } => &[1, 2, 3],
             Call::Enter { .. } => &[4, 5, 6],
             Call::Leave { .. } | Call::Read { .. } => &[4],
-            Call::Cycle { .. } | Call::LaneText { .. } => continue,
+            Call::Cycle { .. } | Call::LaneText { .. } | Call::Load { .. } => continue,
         };
         let number = answer.expect_err("a refusal").number();
         assert!(numbers.contains(&number), "{wide:?} gives {number}");
@@ -114,7 +153,7 @@ fn wishes_as_numbers_are_the_same_wishes() {
     let mut random = Random::new(9);
     for _ in 0..3_000 {
         let lane = sound_lane(&mut random);
-        let next = call(&mut random, &lane, &[0, 0, 1, 0, 0, 0, 0]);
+        let next = call(&mut random, &lane, &CYCLES);
         let Call::Cycle { count, wishes } = &next else {
             unreachable!("cycles alone are asked for")
         };
@@ -137,14 +176,14 @@ fn observed(word: u64, after: &Lane) -> Result<(), String> {
     for newcomer in [carrier(7, 1_000, 0), carrier(8, 700, 64)] {
         lane.enter(newcomer).expect("room");
         let entry = Call::Enter(newcomer);
-        checker.observe::<Summed>(&entry, false, 0, lane.present())?;
+        checker.observe::<Summed>(&entry, false, 0, &lane)?;
     }
     assert_eq!(lane, example_lane(1_000));
     let cycle = Call::Cycle {
         count: 2,
         wishes: Box::new(wishes(&[Wish::Hold, Wish::Units(32)])),
     };
-    checker.observe::<Summed>(&cycle, false, word, after.present())
+    checker.observe::<Summed>(&cycle, false, word, after)
 }
 
 #[test]
@@ -157,13 +196,18 @@ fn the_checker_sees_a_wrong_bit_needless_braking_or_a_wrong_carrier() {
     for bit in 0..64 {
         assert!(observed(2 ^ 1 << bit, &right).is_err(), "bit {bit}");
     }
-    let wrong: [fn(&mut Lane); 6] = [
+    let wrong: [fn(&mut Lane); 11] = [
         |lane| lane.carriers[1].position += 1,
         |lane| lane.carriers[1].speed += 1,
         |lane| lane.carriers[0].number = 9,
         |lane| lane.carriers.swap(0, 1),
         |lane| lane.count = 1,
         |lane| lane.count = 3,
+        |lane| lane.road.surface = 1,
+        |lane| lane.road.end = 10_001,
+        |lane| lane.road.limit = 1_001,
+        |lane| lane.tables.in_force.0[7].most_acceleration = 2,
+        |lane| lane.tables.for_next_start.0[0].guaranteed_braking = 63,
     ];
     for change in wrong {
         let mut lane = right;
@@ -177,17 +221,17 @@ fn the_checker_sees_a_wrong_bit_needless_braking_or_a_wrong_carrier() {
 /// a look at cycle ends alone finds nothing.
 #[test]
 fn the_checker_sees_a_touch_between_cycle_ends() {
-    let first = common::lane(0, 10_000, 1_000, &[]);
-    let mut checker = Checker::new(&first);
-    let mut before = vec![carrier(1, 10, 0)];
-    let seen = checker.observe::<Summed>(&Call::Enter(before[0]), false, 0, &before);
-    assert_eq!(seen, Ok(()));
+    let lane = |carriers: &[_]| common::lane(0, 10_000, 1_000, carriers);
+    let mut checker = Checker::new(&lane(&[]));
     // Not safe, but an implementation might let it in.
-    before.push(carrier(2, 5, 32));
-    let seen = checker.observe::<Summed>(&Call::Enter(before[1]), false, 0, &before);
-    assert_eq!(seen, Ok(()));
+    let (one, two) = ((1, 10, 0), (2, 5, 32));
+    for after in [lane(&[one]), lane(&[one, two])] {
+        let newcomer = *after.present().last().expect("a newcomer");
+        let seen = checker.observe::<Summed>(&Call::Enter(newcomer), false, 0, &after);
+        assert_eq!(seen, Ok(()));
+    }
 
-    let after = [carrier(1, 42, 32), carrier(2, 37, 0)];
+    let after = lane(&[(1, 42, 32), (2, 37, 0)]);
     let cycle = Call::Cycle {
         count: 2,
         wishes: Box::new(wishes(&[Wish::Units(32), Wish::Units(-32)])),

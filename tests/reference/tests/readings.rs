@@ -11,6 +11,7 @@ fn any_lane_may_be_started() {
     let mut broken = full_lane();
     broken.count = u64::MAX;
     broken.road.surface = 99;
+    broken.tables.in_force.0[0].guaranteed_braking = 0;
     assert_eq!(broken.start(road(0, 1, 1), u64::MAX), Ok(()));
     assert_eq!((broken.count, broken.cycle), (0, u64::MAX));
     // The last cycle number is accepted, but no cycle after it.

@@ -2,18 +2,10 @@
 
 mod common;
 
-use common::{carrier, example_lane, full_lane, lane, road, wishes};
+use common::{carrier, example_lane, full_lane, lane, refused, road, wishes};
 use lane_reference::{Answer, Call, Lane, Refusal, Supervisor, Wish};
 
 const NAN: Wish = Wish::Acceleration(0x7FC00000);
-
-/// Asserts that the call is refused with `number` and leaves the lane as it was.
-fn refused(lane: &Lane, number: u32, call: Call) {
-    let mut after = *lane;
-    let answer = after.call(&call);
-    assert_eq!(answer.map_err(Refusal::number), Err(number), "{call:?}");
-    assert_eq!(after, *lane, "{call:?} changed the lane");
-}
 
 fn start(surface: u64, end: u64, limit: u64) -> Call {
     Call::Start {

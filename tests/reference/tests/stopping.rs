@@ -5,7 +5,7 @@ mod common;
 use common::carrier;
 use lane_reference::headway::safe_behind;
 use lane_reference::stopping::{distance, fast, Fast, Summed};
-use lane_reference::surface::{row, Row, HOUSE_ROWS};
+use lane_reference::Row;
 
 #[test]
 fn edges_of_the_paper() {
@@ -44,11 +44,7 @@ fn a_rate_of_zero_never_stops() {
 
 #[test]
 fn gap_of_six_is_unsafe_and_of_seven_safe() {
-    let row = Row {
-        guaranteed_braking: 3,
-        hardest_braking: 5,
-        most_acceleration: 1,
-    };
+    let row = Row::new(3, 5, 1);
     let leader = carrier(1, 100, 7);
     for (gap, safe) in [(6, false), (7, true)] {
         let follower = carrier(2, 100 - gap, 7);
@@ -61,15 +57,6 @@ fn gap_of_six_is_unsafe_and_of_seven_safe() {
 fn level_is_never_safe() {
     // The leader would rest far ahead, but both are at one position.
     let (follower, leader) = (carrier(2, 100, 0), carrier(1, 100, 500));
-    assert!(!safe_behind::<Summed>(&HOUSE_ROWS[0], follower, leader));
-}
-
-#[test]
-fn eight_surfaces_that_brake_no_harder_than_their_hardest() {
-    assert_eq!(HOUSE_ROWS.len(), 8);
-    assert_eq!(row(7).map(|row| row.hardest_braking), Some(255));
-    assert_eq!(row(8), None);
-    for row in HOUSE_ROWS {
-        assert!(0 < row.guaranteed_braking && row.guaranteed_braking <= row.hardest_braking);
-    }
+    let row = Row::new(64, 128, 32);
+    assert!(!safe_behind::<Summed>(&row, follower, leader));
 }

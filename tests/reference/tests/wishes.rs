@@ -4,8 +4,7 @@ mod common;
 
 use common::{carrier, example_lane, lane, wishes};
 use lane_reference::random::{Random, FLOAT_EDGES};
-use lane_reference::surface::HOUSE_ROWS;
-use lane_reference::{Cycled, Supervisor, Wish};
+use lane_reference::{Cycled, Row, Supervisor, Wish};
 
 #[test]
 fn accelerations_of_the_paper() {
@@ -71,7 +70,7 @@ fn conversion_agrees_with_doubles() {
 
 #[test]
 fn trimmed_to_surface_speed_and_limit() {
-    let row = &HOUSE_ROWS[0];
+    let row = &Row::new(64, 128, 32);
     let trimmed = |units, speed| Wish::Units(units).trimmed(row, 1_000, carrier(1, 0, speed));
     assert_eq!(trimmed(-129, 500), Some(-128));
     assert_eq!(trimmed(-128, 500), Some(-128));

@@ -78,6 +78,7 @@ extern "C" {
     ) -> Cycled;
     pub fn rondavitse_read(lane: *const Words, number: u64) -> ReadOut;
     pub fn rondavitse_lane_text(lane: *const Words, out: *mut u8, out_len: usize) -> Listed;
+    pub fn rondavitse_load(lane: *mut Words, text: *const u8, text_length: usize) -> u32;
     pub fn rondavitse_step(
         lane: *mut Words,
         input: *const u8,

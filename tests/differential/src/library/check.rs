@@ -68,7 +68,7 @@ fn recorded(book: &mut Checker, call: &HostCall, outcome: &Outcome) -> Result<()
             values,
         } => (meant(*count, sorts, values), outcome.values[0]),
     };
-    book.observe::<Fast>(&call, outcome.no != 0, word, outcome.lane.present())
+    book.observe::<Fast>(&call, outcome.no != 0, word, &outcome.lane)
 }
 
 /// The cycle that a host's lists mean; the book looks at one that ran only.

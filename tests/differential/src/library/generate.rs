@@ -6,9 +6,10 @@ use super::host;
 use super::host_call::HostCall;
 use super::words;
 use lane_reference::random::{
-    call, history, sound_lane, unsound_lane, widened, History, Random, EVEN, FLOAT_EDGES,
+    calls_on, calls_on_empty, history, never_started_lane, sound_lane, unsound_lane, widened,
+    History, Random, EVEN, FLOAT_EDGES, LOADS,
 };
-use lane_reference::{Call, FastLane, Lane, Supervisor, Wish, PLACES};
+use lane_reference::{Call, Lane, Wish, PLACES};
 
 /// Units that 16 bits do not hold, by their 32 bits.
 const WIDE_UNITS: [u32; 8] = [
@@ -26,34 +27,29 @@ const WIDE_UNITS: [u32; 8] = [
 const NO_SORTS: [u8; 6] = [4, 5, 8, 127, 128, 255];
 
 pub fn case(random: &mut Random) -> Case {
-    let (first, calls) = match random.below(8) {
+    let (first, calls) = match random.below(9) {
         0..=2 => {
             let History { first, calls } = history(random, 130);
             (words::of_lane(random, &first), calls)
         }
-        3 => (host::empty(), history(random, 130).calls),
+        3 => (host::empty(), calls_on_empty(random, 130)),
         4..=5 => on_lane(random, sound_lane, 20),
+        6 => on_lane(random, never_started_lane, 8),
         _ => on_lane(random, unsound_lane, 4),
     };
     let calls = calls.into_iter().map(|call| hosted(random, call)).collect();
     Case { first, calls }
 }
 
-/// A lane and calls, each fitted to the lane as the reference has it then.
+/// A lane and calls on it, all sorts of them or loads and starts above all.
 fn on_lane(
     random: &mut Random,
     lane: fn(&mut Random) -> Lane,
     length: usize,
 ) -> (Words, Vec<Call>) {
     let first = lane(random);
-    let mut lane = FastLane(first);
-    let mut calls = Vec::new();
-    for _ in 0..length {
-        let next = call(random, &lane.0, &EVEN);
-        // Refused calls belong here as well.
-        let _ = lane.call(&next);
-        calls.push(next);
-    }
+    let plan = vec![random.pick(&[EVEN, EVEN, LOADS]); length];
+    let calls = calls_on(random, first, &plan);
     (words::of_lane(random, &first), calls)
 }
 

@@ -2,7 +2,7 @@
 
 use super::binding::*;
 use super::host_call::HostCall;
-use super::outcome::{lent, within, Outcome};
+use super::outcome::{lent, lent_text, within, Outcome};
 use super::words;
 use lane_reference::Call;
 
@@ -25,6 +25,7 @@ pub fn empty() -> Words {
 pub fn outcome(lane: &mut Words, call: &HostCall) -> Outcome {
     match call {
         HostCall::Plain(Call::LaneText { room }) => lane_text(lane, *room),
+        HostCall::Plain(Call::Load { text }) => load(lane, text),
         HostCall::Plain(call) => {
             let (no, values) = plain(lane, call);
             Outcome::new(no, &values, &words::lane(lane))
@@ -37,7 +38,7 @@ pub fn outcome(lane: &mut Words, call: &HostCall) -> Outcome {
     }
 }
 
-/// The number and the values of any call but cycle and lane text.
+/// The number and the values of a call that is lent nothing but the lane.
 fn plain(lane: &mut Words, call: &Call) -> (u32, Vec<u64>) {
     match *call {
         Call::Start { road, first } => {
@@ -65,7 +66,7 @@ fn plain(lane: &mut Words, call: &Call) -> (u32, Vec<u64>) {
                 vec![reading.position.to_bits(), reading.speed.to_bits()],
             )
         }
-        Call::LaneText { .. } => unreachable!("a lane text has a lent buffer"),
+        Call::LaneText { .. } | Call::Load { .. } => unreachable!("these are lent a buffer"),
         Call::Cycle { .. } => unreachable!("a host's cycle is no plain call"),
     }
 }
@@ -84,6 +85,13 @@ fn lane_text(lane: &Words, room: usize) -> Outcome {
     let Listed { no, length } =
         unsafe { rondavitse_lane_text(lane, buffer.as_mut_ptr(), buffer.len()) };
     Outcome::new(no, &[length as u64], &words::lane(lane)).with_lent(lent)
+}
+
+fn load(lane: &mut Words, text: &[u8]) -> Outcome {
+    let mut lent = lent_text(text);
+    let text = within(&mut lent);
+    let no = unsafe { rondavitse_load(lane, text.as_ptr(), text.len()) };
+    Outcome::new(no, &[], &words::lane(lane)).with_lent(lent)
 }
 
 /// One block of `input`, from `at` on; its answer goes into `out`.

@@ -1,4 +1,5 @@
-//! Cases as text: a word and its figures on each line.
+//! Cases as text: a word and its figures on each line. The figures of a load
+//! are the bytes of its text.
 
 use super::binding::Words;
 use super::case::Case;
@@ -36,6 +37,7 @@ fn print_call(call: &HostCall) -> String {
         HostCall::Plain(Call::Leave { number }) => format!("leave {number}\n"),
         HostCall::Plain(Call::Read { number }) => format!("read {number}\n"),
         HostCall::Plain(Call::LaneText { room }) => format!("lane_text {room}\n"),
+        HostCall::Plain(Call::Load { text }) => format!("load{}\n", joined(text)),
         HostCall::Plain(Call::Cycle { .. }) => unreachable!("a host's cycle is no plain call"),
         HostCall::Cycle {
             count,
@@ -127,6 +129,9 @@ fn parse_plain(word: &str, words: &mut SplitWhitespace) -> Option<Call> {
         },
         "lane_text" => Call::LaneText {
             room: figure(words)?,
+        },
+        "load" => Call::Load {
+            text: figures(words)?,
         },
         _ => return None,
     })

@@ -45,6 +45,22 @@ pub fn lent(room: usize) -> Vec<u8> {
     (0..room + 2 * GUARD).map(|place| !(place as u8)).collect()
 }
 
+/// A table text between guards. What lies behind its end would go on with it:
+/// nobody may look there.
+pub fn lent_text(text: &[u8]) -> Vec<u8> {
+    let lines = text.split(|&byte| byte == b'\n').count() - 1;
+    let rest: &[u8] = match (text.ends_with(b"\n"), lines % 3) {
+        (false, _) => b"\n",
+        (true, 0) => b"b=1\nB=1\nA=1\n",
+        (true, 1) => b"B=1\nA=1\n",
+        (true, _) => b"A=1\n",
+    };
+    let mut lent = lent(text.len());
+    lent[GUARD..][..text.len()].copy_from_slice(text);
+    lent[GUARD + text.len()..][..rest.len()].copy_from_slice(rest);
+    lent
+}
+
 /// The buffer itself.
 pub fn within(lent: &mut [u8]) -> &mut [u8] {
     let end = lent.len() - GUARD;

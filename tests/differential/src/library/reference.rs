@@ -1,12 +1,15 @@
 //! The reference's answers, in the shape of the product's.
 
 use super::host_call::HostCall;
-use super::outcome::{lent, within, Outcome};
+use super::outcome::{lent, lent_text, within, Outcome};
 use lane_reference::{Answer, Call, Cycled, FastLane, Lane, Refusal, Supervisor};
 
 pub fn outcome(lane: &Lane, call: &HostCall) -> Outcome {
     match call {
         HostCall::Plain(Call::LaneText { room }) => lane_text(lane, *room),
+        HostCall::Plain(call @ Call::Load { text }) => {
+            answered(lane, call).with_lent(lent_text(text))
+        }
         HostCall::Plain(call) => answered(lane, call),
         HostCall::Cycle {
             count,
@@ -26,7 +29,7 @@ fn answered(lane: &Lane, call: &Call) -> Outcome {
 
 fn values(answer: &Answer) -> Vec<u64> {
     match answer {
-        Answer::Started | Answer::Left => vec![],
+        Answer::Started | Answer::Left | Answer::Loaded => vec![],
         Answer::Entered(place) => vec![*place as u64],
         Answer::Read(reading) => vec![reading.position.to_bits(), reading.speed.to_bits()],
         Answer::Cycled(_) => unreachable!("a host's cycle is no plain call"),
@@ -37,7 +40,7 @@ fn values(answer: &Answer) -> Vec<u64> {
 /// The values of a refusal, all of them zero.
 fn no_values(call: &Call) -> &'static [u64] {
     match call {
-        Call::Start { .. } | Call::Leave { .. } => &[],
+        Call::Start { .. } | Call::Leave { .. } | Call::Load { .. } => &[],
         Call::Enter { .. } | Call::LaneText { .. } => &[0],
         Call::Read { .. } => &[0; 2],
         Call::Cycle { .. } => &[0; 3],

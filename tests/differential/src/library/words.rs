@@ -2,14 +2,19 @@
 
 use super::binding::Words;
 use lane_reference::random::Random;
-use lane_reference::{Carrier, Lane, Road};
+use lane_reference::{Carrier, Lane, Road, Row, Table, Tables, PLACES};
+use std::array;
 
-/// The row of the first record; the rows between it and the first are free.
+/// Where the surface rows in force begin, those for the next start, the rows
+/// that are free, and the records.
+const IN_FORCE: usize = 1;
+const FOR_NEXT_START: usize = 9;
+const FREE: usize = 17;
 const RECORDS: usize = 25;
 
-/// How many words of the first row and of a record count.
+/// How many words of the first row count, and of a surface row or a record.
 const FIGURES: usize = 6;
-const FIGURES_OF_RECORD: usize = 3;
+const FIGURES_OF_ROW: usize = 3;
 
 /// Words of a lane that counts as never started.
 const NEVER_STARTED: [u64; 6] = [0, 0, 2, 256, (1 << 32) + 1, u64::MAX];
@@ -26,7 +31,11 @@ pub fn lane(words: &Words) -> Lane {
         },
         cycle,
         count,
-        ..Lane::default()
+        tables: Tables {
+            in_force: table(words, IN_FORCE),
+            for_next_start: table(words, FOR_NEXT_START),
+        },
+        carriers: [Carrier::default(); PLACES],
     };
     for (carrier, row) in lane.carriers.iter_mut().zip(&words[RECORDS..]) {
         let [number, position, speed, ..] = *row;
@@ -39,26 +48,44 @@ pub fn lane(words: &Words) -> Lane {
     lane
 }
 
-/// A lane as words; those that do not count hold anything.
-pub fn of_lane(random: &mut Random, lane: &Lane) -> Words {
+/// The table whose first row is the row `first`.
+fn table(words: &Words, first: usize) -> Table {
+    Table(array::from_fn(|code| {
+        let [b, hardest, most, ..] = words[first + code];
+        Row::new(b, hardest, most)
+    }))
+}
+
+/// A lane as words; those that do not count are 0.
+pub fn plain(lane: &Lane) -> Words {
     let mut words = [[0; 8]; 89];
-    let started = if lane.started {
-        1
-    } else {
-        random.pick(&NEVER_STARTED)
-    };
     let Road {
         surface,
         end,
         limit,
     } = lane.road;
+    let started = lane.started.into();
     words[0] = [started, surface, end, limit, lane.cycle, lane.count, 0, 0];
+    put_table(&mut words, IN_FORCE, &lane.tables.in_force);
+    put_table(&mut words, FOR_NEXT_START, &lane.tables.for_next_start);
     for (row, carrier) in words[RECORDS..].iter_mut().zip(lane.carriers) {
-        row[..FIGURES_OF_RECORD].copy_from_slice(&[
-            carrier.number,
-            carrier.position,
-            carrier.speed,
-        ]);
+        let figures = [carrier.number, carrier.position, carrier.speed];
+        row[..FIGURES_OF_ROW].copy_from_slice(&figures);
+    }
+    words
+}
+
+fn put_table(words: &mut Words, first: usize, table: &Table) {
+    for (words, row) in words[first..].iter_mut().zip(table.0) {
+        words[..FIGURES_OF_ROW].copy_from_slice(&row.figures());
+    }
+}
+
+/// A lane as words; those that do not count hold anything.
+pub fn of_lane(random: &mut Random, lane: &Lane) -> Words {
+    let mut words = plain(lane);
+    if !lane.started {
+        words[0][0] = random.pick(&NEVER_STARTED);
     }
     if random.chance(80) {
         let seed = random.bits();
@@ -73,8 +100,8 @@ pub fn scramble(words: &mut Words, seed: u64) {
     for (place, row) in words.iter_mut().enumerate() {
         let counting = match place {
             0 => FIGURES,
-            RECORDS.. => FIGURES_OF_RECORD,
-            _ => 0,
+            FREE..RECORDS => 0,
+            _ => FIGURES_OF_ROW,
         };
         for word in &mut row[counting..] {
             let any = random.bits();

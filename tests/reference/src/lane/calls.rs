@@ -9,7 +9,8 @@ use crate::headway::safe_behind;
 use crate::refusal::Refusal;
 use crate::road::Road;
 use crate::stopping::Stopping;
-use crate::surface::Row;
+use crate::surface::{Row, Table};
+use crate::text;
 use crate::wish::Wish;
 
 /// The calls, over either way to reckon stopping distances. They change the
@@ -20,10 +21,14 @@ pub trait Supervisor {
     fn lane(&self) -> &Lane;
     fn lane_mut(&mut self) -> &mut Lane;
 
-    /// Empties the lane, whatever state it is in, and begins anew.
+    /// Empties the lane, whatever state it is in but for the rows that it puts
+    /// in force, and begins anew.
     fn start(&mut self, road: Road, first: u64) -> Result<(), Refusal> {
-        road.row()?;
         let lane = self.lane_mut();
+        let next = &lane.tables.for_next_start;
+        Refusal::LaneUnsound.when(!next.is_sound())?;
+        road.row(next)?;
+        lane.tables.in_force = *next;
         lane.started = true;
         lane.road = road;
         lane.cycle = first;
@@ -44,9 +49,9 @@ pub trait Supervisor {
         Refusal::NumberPresent.when(lane.place_of(newcomer.number).is_some())?;
         let place = entry_place(present, newcomer.position);
         let safe = safe_behind::<Self::Stopping>;
-        let leader_near = place > 0 && !safe(row, newcomer, present[place - 1]);
+        let leader_near = place > 0 && !safe(&row, newcomer, present[place - 1]);
         Refusal::UnsafeBehindLeader.when(leader_near)?;
-        let follower_near = place < count && !safe(row, present[place], newcomer);
+        let follower_near = place < count && !safe(&row, present[place], newcomer);
         Refusal::FollowerUnsafe.when(follower_near)?;
         lane.carriers.copy_within(place..count, place + 1);
         lane.carriers[place] = newcomer;
@@ -71,10 +76,10 @@ pub trait Supervisor {
         let mut wished = [0; PLACES];
         for (place, &carrier) in lane.present().iter().enumerate() {
             wished[place] = wishes[place]
-                .trimmed(row, lane.road.limit, carrier)
+                .trimmed(&row, lane.road.limit, carrier)
                 .ok_or(Refusal::FloatOutOfRange)?;
         }
-        Ok(drive::<Self::Stopping>(lane, row, &wished))
+        Ok(drive::<Self::Stopping>(lane, &row, &wished))
     }
 
     /// A cycle whose wishes are given by their sorts and values, as a host has
@@ -89,13 +94,13 @@ pub trait Supervisor {
         for (place, &carrier) in present.iter().enumerate() {
             let wish = Wish::of_numbers(sorts[place], values[place]);
             let wish = wish.ok_or(Refusal::WishUnknown)?;
-            match wish.trimmed(row, lane.road.limit, carrier) {
+            match wish.trimmed(&row, lane.road.limit, carrier) {
                 Some(acceleration) => wished[place] = acceleration,
                 None => outside = true,
             }
         }
         Refusal::FloatOutOfRange.when(outside)?;
-        Ok(drive::<Self::Stopping>(lane, row, &wished))
+        Ok(drive::<Self::Stopping>(lane, &row, &wished))
     }
 
     /// Where a carrier is and how fast.
@@ -122,8 +127,22 @@ pub trait Supervisor {
         Ok(length)
     }
 
+    /// Takes the rows for the next start from a table text. A lane never started
+    /// counts as empty and sound, whatever it holds.
+    fn load(&mut self, text: &[u8]) -> Result<(), Refusal> {
+        let lane = self.lane_mut();
+        if lane.started {
+            lane.sound_row::<Self::Stopping>()?;
+        }
+        let table = text::table(text).ok().filter(Table::is_sound);
+        let table = table.ok_or(Refusal::TableFaulty)?;
+        Refusal::CarriersPresent.when(lane.started && lane.count > 0)?;
+        lane.tables.for_next_start = table;
+        Ok(())
+    }
+
     /// The checks of a cycle before its wishes are looked at.
-    fn ready(&self, count: u64) -> Result<&'static Row, Refusal> {
+    fn ready(&self, count: u64) -> Result<Row, Refusal> {
         let row = self.lane().sound_row::<Self::Stopping>()?;
         Refusal::CountDiffers.when(count != self.lane().count)?;
         Refusal::CyclesExhausted.when(self.lane().cycle == u64::MAX)?;
@@ -151,6 +170,7 @@ pub trait Supervisor {
                 buffer.truncate(length);
                 Ok(Answer::LaneText(buffer))
             }
+            Call::Load { ref text } => self.load(text).map(|()| Answer::Loaded),
         }
     }
 }

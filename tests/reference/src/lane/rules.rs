@@ -52,12 +52,12 @@ impl Carrier {
 }
 
 impl Lane {
-    /// The surface row of a started lane that breaks no rule; else refusal 21.
-    pub fn sound_row<S: Stopping>(&self) -> Result<&'static Row, Refusal> {
-        match self.road.row() {
-            Ok(row) if self.started && self.count <= PLACES as u64 && self.is_sound::<S>(row) => {
-                Ok(row)
-            }
+    /// The row in force of a started lane that breaks no rule; else refusal 21.
+    /// Rows are looked at before a stop is reckoned with one of them.
+    pub fn sound_row<S: Stopping>(&self) -> Result<Row, Refusal> {
+        let bounded = self.started && self.count <= PLACES as u64 && self.tables.are_sound();
+        match self.road.row(&self.tables.in_force) {
+            Ok(row) if bounded && self.is_sound::<S>(&row) => Ok(row),
             _ => Err(Refusal::LaneUnsound),
         }
     }

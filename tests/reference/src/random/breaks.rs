@@ -1,5 +1,6 @@
-//! Ways to break a well-formed program input. Each leaves it malformed for
-//! certain, so that the program must end with refusal 8.
+//! Ways to break a well-formed program input or table text. Each leaves it
+//! malformed for certain, so that the program must end with refusal 8 and a
+//! load must get 31.
 
 use super::Random;
 
@@ -113,6 +114,33 @@ pub fn break_line(random: &mut Random, text: &[u8], line_break: LineBreak) -> Op
     Some(joined(&lines))
 }
 
+/// The text broken in one way; nothing where that does not apply.
+pub fn broken(random: &mut Random, text: &[u8]) -> Option<Vec<u8>> {
+    if random.chance(60) {
+        let line_break = random.pick(&LINE_BREAKS);
+        break_line(random, text, line_break)
+    } else {
+        let text_break = random.pick(&TEXT_BREAKS);
+        text_break(random, text)
+    }
+}
+
+/// The text with a few bytes changed, added or lost; it may still be well-formed.
+pub fn garbled(random: &mut Random, mut text: Vec<u8>) -> Vec<u8> {
+    for _ in 0..=random.below(3) {
+        let place = random.index(text.len().max(1));
+        let any = random.bits() as u8;
+        let byte = random.pick(&[b'0', b'1', b'9', b'-', b'=', b'\n', b'A', b':', any]);
+        match random.below(3) {
+            0 => text.insert(place, byte),
+            _ if place >= text.len() => (),
+            1 => text[place] = byte,
+            _ => drop(text.remove(place)),
+        }
+    }
+    text
+}
+
 /// A break of the text as a whole; nothing where it does not apply.
 pub type TextBreak = fn(&mut Random, &[u8]) -> Option<Vec<u8>>;
 
@@ -178,12 +206,12 @@ fn cut_off(random: &mut Random, text: &[u8]) -> Option<Vec<u8>> {
         .then(|| cut.to_vec())
 }
 
-fn lines_of(text: &[u8]) -> Vec<&str> {
+pub fn lines_of(text: &[u8]) -> Vec<&str> {
     let text = std::str::from_utf8(text).expect("well-formed texts are ASCII");
     text.lines().collect()
 }
 
-fn joined(lines: &[&str]) -> Vec<u8> {
+pub fn joined(lines: &[&str]) -> Vec<u8> {
     lines
         .iter()
         .flat_map(|line| [line, "\n"])

@@ -1,6 +1,7 @@
 //! The next call of a history, fitted to the lane it meets.
 
 use super::entries::{closing_up, entry, known_number};
+use super::table_texts::load_text;
 use super::wishes::wishes;
 use super::Random;
 use crate::call::Call;
@@ -8,11 +9,17 @@ use crate::lane::{Lane, LONGEST_LANE_TEXT};
 use crate::road::Road;
 
 /// How likely each sort of call is: closing up at the back, any other entry,
-/// cycle, leave, read, lane text, start.
-pub type Weights = [u64; 7];
+/// cycle, leave, read, lane text, good start, any start, load.
+pub type Weights = [u64; 9];
 
 /// All sorts of calls.
-pub const EVEN: Weights = [10, 25, 30, 12, 8, 8, 3];
+pub const EVEN: Weights = [10, 25, 30, 12, 8, 8, 1, 2, 4];
+
+/// Cycles alone.
+pub const CYCLES: Weights = [0, 0, 1, 0, 0, 0, 0, 0, 0];
+
+/// Loads before and after a start, and what shows that they do no more.
+pub const LOADS: Weights = [1, 0, 3, 1, 1, 1, 3, 1, 12];
 
 /// A call on `lane`, which may be any lane.
 pub fn call(random: &mut Random, lane: &Lane, weights: &Weights) -> Call {
@@ -27,7 +34,11 @@ pub fn call(random: &mut Random, lane: &Lane, weights: &Weights) -> Call {
             number: known_number(random, lane),
         },
         5 => lane_text(random, lane),
-        _ => start(random),
+        6 => good_start(random),
+        7 => any_start(random),
+        _ => Call::Load {
+            text: load_text(random),
+        },
     }
 }
 
@@ -56,7 +67,7 @@ fn lane_text(random: &mut Random, lane: &Lane) -> Call {
 }
 
 /// A start, with arguments outside their ranges now and then.
-pub fn start(random: &mut Random) -> Call {
+fn any_start(random: &mut Random) -> Call {
     let edge = |random: &mut Random, usual: u64, edges: &[u64]| {
         if random.chance(10) {
             random.pick(edges)
@@ -80,8 +91,8 @@ pub fn start(random: &mut Random) -> Call {
     }
 }
 
-/// A start that is not refused.
-pub fn valid_start(random: &mut Random) -> Call {
+/// A start that is not refused for its arguments.
+fn good_start(random: &mut Random) -> Call {
     Call::Start {
         road: any_road(random),
         first: any_cycle(random),

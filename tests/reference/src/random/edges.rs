@@ -2,13 +2,22 @@
 //! so they are reckoned in 128 bits.
 
 use crate::carrier::Carrier;
+use crate::lane::Lane;
 use crate::stopping::fast;
-use crate::surface::{Row, HOUSE_ROWS};
-use crate::{surface, Lane};
+use crate::surface::{Row, RATES};
 
-/// The row of a lane's surface, or any where the code has none.
-pub fn row_of(lane: &Lane) -> &'static Row {
-    surface::row(lane.road.surface).unwrap_or(&HOUSE_ROWS[0])
+/// The row of a lane's surface, or a sound one near it; any where the code
+/// has none.
+pub fn row_of(lane: &Lane) -> Row {
+    let row = lane.tables.in_force.row(lane.road.surface);
+    let row = row.unwrap_or_default();
+    let (least, most) = (*RATES.start(), *RATES.end());
+    let hardest = row.hardest_braking.clamp(least, most);
+    Row {
+        guaranteed_braking: row.guaranteed_braking.clamp(least, hardest),
+        hardest_braking: hardest,
+        most_acceleration: row.most_acceleration.clamp(least, most),
+    }
 }
 
 /// The word, or the greatest number that a line of text may hold.
@@ -16,8 +25,8 @@ pub fn narrow(word: u64) -> u64 {
     word.min(u32::MAX.into())
 }
 
-fn stop(rate: u32, speed: u64) -> i128 {
-    fast(rate, narrow(speed) as u32).into()
+fn stop(rate: u64, speed: u64) -> i128 {
+    fast(rate as u32, narrow(speed) as u32).into()
 }
 
 /// The foremost position at which a carrier with `speed` is safe behind `leader`.
@@ -38,8 +47,8 @@ pub fn nearest_ahead(row: &Row, follower: Carrier, speed: u64) -> i128 {
 pub fn trimming_ends(row: &Row, limit: u64, speed: u64) -> (i64, i64) {
     let (limit, speed) = (narrow(limit) as i64, narrow(speed) as i64);
     (
-        -speed.min(row.hardest_braking.into()),
-        (limit - speed).min(row.most_acceleration.into()),
+        -speed.min(row.hardest_braking as i64),
+        (limit - speed).min(row.most_acceleration as i64),
     )
 }
 

@@ -35,11 +35,11 @@ pub fn closing_up(random: &mut Random, lane: &Lane) -> Carrier {
     let position = match lane.present().last() {
         Some(&rear) => {
             let row = row_of(lane);
-            if nearest_behind(row, rear, speed) < 0 {
+            if nearest_behind(&row, rear, speed) < 0 {
                 speed = 0;
             }
             let slack = random.pick(&[0, 0, 0, 1, 500]);
-            to_position(nearest_behind(row, rear, speed) - slack)
+            to_position(nearest_behind(&row, rear, speed) - slack)
         }
         None => near_end(random, lane).min(lane.road.end.saturating_sub(1)),
     };
@@ -65,7 +65,7 @@ fn behind(random: &mut Random, lane: &Lane, speed: u64) -> u64 {
     let rear = lane.present().len().saturating_sub(1);
     match neighbour(random, lane, rear) {
         Some(leader) => {
-            let nearest = nearest_behind(row_of(lane), leader, speed);
+            let nearest = nearest_behind(&row_of(lane), leader, speed);
             to_position(nearest + random.pick(&OFFSETS))
         }
         None => near_end(random, lane),
@@ -75,7 +75,7 @@ fn behind(random: &mut Random, lane: &Lane, speed: u64) -> u64 {
 fn ahead(random: &mut Random, lane: &Lane, speed: u64) -> u64 {
     match neighbour(random, lane, 0) {
         Some(follower) => {
-            let nearest = nearest_ahead(row_of(lane), follower, speed);
+            let nearest = nearest_ahead(&row_of(lane), follower, speed);
             to_position(nearest - random.pick(&OFFSETS))
         }
         None => near_end(random, lane),
@@ -98,7 +98,6 @@ fn near_end(random: &mut Random, lane: &Lane) -> u64 {
 pub fn speed(random: &mut Random, lane: &Lane) -> u64 {
     let row = row_of(lane);
     let (b, hardest) = (row.guaranteed_braking, row.hardest_braking);
-    let (b, hardest) = (u64::from(b), u64::from(hardest));
     let limit = narrow(lane.road.limit);
     let times = 1 + random.below(9);
     let within = random.below(limit + 1);

@@ -1,10 +1,12 @@
-//! Whole histories: lanes fill up, drive, and meet all sorts of calls.
+//! Whole histories: tables are loaded, lanes fill up, drive, and meet all sorts
+//! of calls.
 
-use super::calls::{call, valid_start, Weights, EVEN};
+use super::calls::{call, Weights, EVEN, LOADS};
 use super::lanes::empty_lane;
 use super::Random;
 use crate::call::Call;
 use crate::lane::{FastLane, Lane, Supervisor};
+use std::iter::repeat_n;
 
 /// A lane without carriers and the calls on it in turn.
 #[derive(Clone, Debug)]
@@ -13,30 +15,62 @@ pub struct History {
     pub calls: Vec<Call>,
 }
 
-const FILL: Weights = [90, 4, 2, 2, 1, 1, 0];
-const DRIVE: Weights = [5, 8, 75, 4, 4, 4, 0];
+const START: Weights = [0, 0, 0, 0, 0, 0, 1, 0, 0];
+const FILL: Weights = [90, 4, 2, 2, 1, 1, 0, 0, 1];
+const DRIVE: Weights = [5, 8, 75, 4, 4, 4, 0, 0, 2];
 
-/// A history of so many calls, each fitted to the lane as this implementation
-/// has it at that point.
+/// A history of so many calls.
 pub fn history(random: &mut Random, calls: usize) -> History {
     let first = empty_lane(random);
-    let mut lane = FastLane(first);
-    let mut history = History {
+    let plan = plan(random, calls);
+    History {
         first,
-        calls: Vec::new(),
-    };
-    let filling = random.pick(&[0, 2, 5, 20, 80, 80]);
-    let driving = random.pick(&[5, 30, 60]);
-    for turn in 0..calls {
-        let next = match turn {
-            0 if random.chance(92) => valid_start(random),
-            _ if turn < filling => call(random, &lane.0, &FILL),
-            _ if turn < filling + driving => call(random, &lane.0, &DRIVE),
-            _ => call(random, &lane.0, &EVEN),
-        };
+        calls: calls_on(random, first, &plan),
+    }
+}
+
+/// So many calls on the empty lane.
+pub fn calls_on_empty(random: &mut Random, calls: usize) -> Vec<Call> {
+    let plan = plan(random, calls);
+    calls_on(random, Lane::default(), &plan)
+}
+
+/// So many calls on the empty lane without a load, which no call text makes.
+pub fn calls_without_loads(random: &mut Random, calls: usize) -> Vec<Call> {
+    let mut plan = plan(random, calls);
+    for [.., load] in &mut plan {
+        *load = 0;
+    }
+    calls_on(random, Lane::default(), &plan)
+}
+
+/// Calls as likely as planned, each fitted to the lane as this implementation
+/// has it at that point.
+pub fn calls_on(random: &mut Random, first: Lane, plan: &[Weights]) -> Vec<Call> {
+    let mut lane = FastLane(first);
+    let fitted = plan.iter().map(|weights| {
+        let next = call(random, &lane.0, weights);
         // Refused calls belong to a history as well.
         let _ = lane.call(&next);
-        history.calls.push(next);
+        next
+    });
+    fitted.collect()
+}
+
+/// Weights for so many calls: shifts one after the other.
+fn plan(random: &mut Random, calls: usize) -> Vec<Weights> {
+    let mut plan = Vec::new();
+    while plan.len() < calls {
+        let shift = [
+            (LOADS, random.pick(&[0, 1, 3, 8])),
+            (START, usize::from(random.chance(92))),
+            (FILL, random.pick(&[0, 2, 5, 20, 80, 80])),
+            (DRIVE, random.pick(&[5, 30, 60])),
+            (EVEN, random.pick(&[0, 10, 30, 130])),
+        ];
+        let turns = shift.into_iter();
+        plan.extend(turns.flat_map(|(weights, turns)| repeat_n(weights, turns)));
     }
-    history
+    plan.truncate(calls);
+    plan
 }

@@ -3,11 +3,13 @@
 use super::calls::{any_cycle, any_road};
 use super::edges::{nearest_behind, row_of};
 use super::entries::{closing_up, speed};
+use super::tables::{any_tables, sound_tables, unsound_table};
 use super::wide::{wide, wide_number};
 use super::Random;
 use crate::carrier::Carrier;
 use crate::lane::{Lane, PLACES};
 use crate::road::Road;
+use crate::surface::Tables;
 
 /// A lane without carriers that a history may begin with; its other fields
 /// are anything.
@@ -15,18 +17,39 @@ pub fn empty_lane(random: &mut Random) -> Lane {
     if random.chance(30) {
         return Lane::default();
     }
-    let any = random.bits();
-    let narrow = any >> 32;
     Lane {
         started: random.chance(70),
-        road: Road {
-            surface: random.pick(&[0, 3, 6, 7, 7, 8, narrow, any]),
-            end: random.pick(&[0, 1, 20_000, 1 << 31, (1 << 31) + 1, narrow, any]),
-            limit: random.pick(&[0, 1, 2_000, 8_192, 8_193, narrow, any]),
-        },
+        road: wild_road(random),
         cycle: any_cycle(random),
         count: 0,
+        tables: if random.chance(10) {
+            any_tables(random)
+        } else {
+            sound_tables(random)
+        },
         carriers: leftovers(random),
+    }
+}
+
+/// A lane never started in which every other field is anything.
+pub fn never_started_lane(random: &mut Random) -> Lane {
+    let any = random.bits();
+    Lane {
+        started: false,
+        count: random.pick(&[0, 1, 2, 64, 65, 1 << 32, any, u64::MAX]),
+        tables: any_tables(random),
+        road: wild_road(random),
+        ..sound_lane(random)
+    }
+}
+
+fn wild_road(random: &mut Random) -> Road {
+    let any = random.bits();
+    let narrow = any >> 32;
+    Road {
+        surface: random.pick(&[0, 3, 6, 7, 7, 8, narrow, any]),
+        end: random.pick(&[0, 1, 20_000, 1 << 31, (1 << 31) + 1, narrow, any]),
+        limit: random.pick(&[0, 1, 2_000, 8_192, 8_193, narrow, any]),
     }
 }
 
@@ -47,11 +70,18 @@ fn leftovers(random: &mut Random) -> [Carrier; PLACES] {
 
 /// A started, sound lane: a tight platoon of up to 64.
 pub fn sound_lane(random: &mut Random) -> Lane {
+    let tables = sound_tables(random);
+    lane_with(random, tables)
+}
+
+/// As [`sound_lane`], with the caller's tables, which are sound.
+pub fn lane_with(random: &mut Random, tables: Tables) -> Lane {
     let mut lane = Lane {
         started: true,
         road: any_road(random),
         cycle: any_cycle(random),
         count: 0,
+        tables,
         carriers: leftovers(random),
     };
     let any = random.index(PLACES + 1);
@@ -73,10 +103,17 @@ pub fn unsound_lane(random: &mut Random) -> Lane {
     while lane.present().len() < 2 {
         lane = sound_lane(random);
     }
-    if random.chance(40) {
-        widen(random, &mut lane);
-        return lane;
+    match random.below(10) {
+        0..=2 => widen(random, &mut lane),
+        3..=4 => lane.tables.in_force = unsound_table(random),
+        5..=6 => lane.tables.for_next_start = unsound_table(random),
+        _ => overstep(random, &mut lane),
     }
+    lane
+}
+
+/// Breaks one rule by as little as can be.
+fn overstep(random: &mut Random, lane: &mut Lane) {
     let place = random.index(lane.present().len());
     let follower = 1 + random.index(lane.present().len() - 1);
     let ahead = random.index(follower);
@@ -92,9 +129,8 @@ pub fn unsound_lane(random: &mut Random) -> Lane {
         7 => lane.carriers[place].speed = random.pick(&[lane.road.limit + 1, most]),
         8 => lane.road.end = lane.carriers[0].position.max(1) - random.below(2),
         9 => lane.carriers[follower].position = lane.carriers[ahead].position,
-        _ => too_near(random, &mut lane, follower),
+        _ => too_near(random, lane, follower),
     }
-    lane
 }
 
 /// Puts bits above its width into one field that counts.
@@ -116,7 +152,7 @@ fn widen(random: &mut Random, lane: &mut Lane) {
 fn too_near(random: &mut Random, lane: &mut Lane, follower: usize) {
     let leader = lane.carriers[follower - 1];
     let speed = speed(random, lane).min(lane.road.limit);
-    let nearest = nearest_behind(row_of(lane), leader, speed);
+    let nearest = nearest_behind(&row_of(lane), leader, speed);
     // Where this speed finds no room at all, level with the leader will do.
     let position = u64::try_from(nearest + 1).unwrap_or(leader.position);
     lane.carriers[follower].position = position;

@@ -1,14 +1,14 @@
 //! Whole program inputs.
 
-use super::breaks::{break_line, LINE_BREAKS, TEXT_BREAKS};
-use super::histories::history;
+use super::breaks::{broken, garbled};
+use super::histories::calls_without_loads;
 use super::Random;
 use crate::call::Call;
 use crate::program::LONGEST_INPUT;
 use crate::wish::Wish;
 
-/// The call text of a call; none for a reading, nor for a cycle whose count
-/// no text can hold.
+/// The call text of a call; none for a reading or a load, nor for a cycle whose
+/// count no text can hold.
 pub fn call_text(call: &Call) -> Option<String> {
     match call {
         Call::Start { road, first } => Some(format!(
@@ -26,7 +26,7 @@ pub fn call_text(call: &Call) -> Option<String> {
             Some(format!("call=cycle\ncars={count}\n{wants}"))
         }
         Call::LaneText { .. } => Some("call=show\n".to_string()),
-        Call::Read { .. } => None,
+        Call::Read { .. } | Call::Load { .. } => None,
     }
 }
 
@@ -43,7 +43,7 @@ fn want_line(wish: &Wish) -> String {
 pub fn program(random: &mut Random) -> Vec<u8> {
     let length = random.pick(&[1, 4, 12, 40, 120]);
     let mut text = String::new();
-    for call in history(random, length).calls {
+    for call in calls_without_loads(random, length) {
         let block = call_text(&call).unwrap_or_else(|| "call=show\n".to_string());
         if text.len() + block.len() <= LONGEST_INPUT {
             text.push_str(&block);
@@ -70,14 +70,8 @@ pub fn oversize_program(random: &mut Random) -> Vec<u8> {
 pub fn malformed_program(random: &mut Random) -> Vec<u8> {
     loop {
         let text = program(random);
-        let broken = if random.chance(60) {
-            let line_break = random.pick(&LINE_BREAKS);
-            break_line(random, &text, line_break)
-        } else {
-            let text_break = random.pick(&TEXT_BREAKS);
-            text_break(random, &text)
-        };
-        if let Some(broken) = broken.filter(|broken| broken.len() <= LONGEST_INPUT) {
+        let broken = broken(random, &text).filter(|broken| broken.len() <= LONGEST_INPUT);
+        if let Some(broken) = broken {
             return broken;
         }
     }
@@ -85,17 +79,6 @@ pub fn malformed_program(random: &mut Random) -> Vec<u8> {
 
 /// An input with a few bytes changed, added or lost; it may still be well-formed.
 pub fn garbled_program(random: &mut Random) -> Vec<u8> {
-    let mut text = program(random);
-    for _ in 0..=random.below(3) {
-        let place = random.index(text.len().max(1));
-        let any = random.bits() as u8;
-        let byte = random.pick(&[b'0', b'1', b'9', b'-', b'=', b'\n', b'A', b':', any]);
-        match random.below(3) {
-            0 => text.insert(place, byte),
-            _ if place >= text.len() => (),
-            1 => text[place] = byte,
-            _ => drop(text.remove(place)),
-        }
-    }
-    text
+    let text = program(random);
+    garbled(random, text)
 }

@@ -16,8 +16,14 @@ pub fn wide_number(random: &mut Random, number: u64) -> u64 {
     random.pick(&[number | bit, number | bit, bit, u64::MAX])
 }
 
-/// The call with one argument that no text can hold; a cycle and a lane text
-/// stay as they are.
+/// The figure of a row with a bit above 8 set, or with all.
+pub fn wide_figure(random: &mut Random, figure: u64) -> u64 {
+    let bit = 1 << (8 + random.below(56));
+    random.pick(&[figure | bit, figure | bit, bit, u64::MAX])
+}
+
+/// The call with one argument that no text can hold; a cycle, a lane text and
+/// a load stay as they are.
 pub fn widened(random: &mut Random, call: &Call) -> Call {
     let mut call = call.clone();
     let argument = random.below(3);
@@ -33,7 +39,7 @@ pub fn widened(random: &mut Random, call: &Call) -> Call {
             _ => carrier.speed = wide(random, carrier.speed),
         },
         Call::Leave { number } | Call::Read { number } => *number = wide_number(random, *number),
-        Call::Cycle { .. } | Call::LaneText { .. } => (),
+        Call::Cycle { .. } | Call::LaneText { .. } | Call::Load { .. } => (),
     }
     call
 }

@@ -82,9 +82,10 @@ fn wish(random: &mut Random, lane: &Lane, place: usize, mood: Mood) -> Wish {
     let present = lane.present();
     let carrier = present[place];
     let leader = place.checked_sub(1).map(|ahead| present[ahead]);
-    let (lowest, highest) = trimming_ends(row_of(lane), lane.road.limit, carrier.speed);
+    let (row, limit) = (row_of(lane), lane.road.limit);
+    let (lowest, highest) = trimming_ends(&row, limit, carrier.speed);
     let standing = leader.map_or(highest, |leader| {
-        greatest_standing(row_of(lane), lane.road.limit, carrier, leader)
+        greatest_standing(&row, limit, carrier, leader)
     });
     let units = match mood {
         Mood::Mixed => return mixed(random, lane, carrier, standing),
@@ -99,7 +100,7 @@ fn wish(random: &mut Random, lane: &Lane, place: usize, mood: Mood) -> Wish {
 
 fn mixed(random: &mut Random, lane: &Lane, carrier: Carrier, standing: i64) -> Wish {
     let row = row_of(lane);
-    let (lowest, highest) = trimming_ends(row, lane.road.limit, carrier.speed);
+    let (lowest, highest) = trimming_ends(&row, lane.road.limit, carrier.speed);
     let braking = i64::from(carrier.braking(row.guaranteed_braking));
     match random.below(10) {
         0 => Wish::Hold,

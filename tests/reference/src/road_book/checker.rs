@@ -2,7 +2,6 @@
 
 use super::{Breach, Drive, RoadBook};
 use crate::call::{Answer, Call};
-use crate::carrier::Carrier;
 use crate::headway::rests_behind;
 use crate::lane::{Lane, Supervisor, PLACES};
 use crate::stopping::Stopping;
@@ -23,30 +22,32 @@ impl Checker {
     /// For a history that begins with `first`, a lane without carriers.
     pub fn new(first: &Lane) -> Checker {
         Checker {
-            book: RoadBook::new(first),
+            book: RoadBook::of(first),
         }
     }
 
     /// Takes the next call, what it answered (the word counts for a cycle
-    /// only) and the carriers that the lane holds after it, front to back.
+    /// only) and the lane after it.
     pub fn observe<S: Stopping>(
         &mut self,
         call: &Call,
         refused: bool,
         word: u64,
-        carriers: &[Carrier],
+        after: &Lane,
     ) -> Result<(), Breach> {
         if let (Call::Cycle { wishes, .. }, false) = (call, refused) {
             apart_throughout(&self.book.drives(wishes, word)?)?;
             self.replaced_rightly::<S>(wishes, word)?;
         }
         self.book.record(call, refused, word)?;
-        if carriers != self.book.carriers {
+        let held = RoadBook::of(after);
+        if held != self.book {
             return Err(format!(
-                "carriers {carriers:?}, but the book has {:?}",
-                self.book.carriers
+                "the lane has {held:?}, but the book {:?}",
+                self.book
             ));
         }
+        let carriers = held.carriers;
         in_order(carriers.iter().map(|carrier| carrier.position.into()))
             .map_err(|place| format!("place {place} is not below the one ahead: {carriers:?}"))
     }
@@ -63,7 +64,7 @@ impl Checker {
         let mut expected = 0;
         for (place, wished) in self.book.trimmed(wishes)?.into_iter().enumerate().skip(1) {
             let (leader, follower) = (carriers[place - 1], carriers[place]);
-            let crossed = !rests_behind::<S>(row, follower, wished, leader);
+            let crossed = !rests_behind::<S>(&row, follower, wished, leader);
             expected |= u64::from(crossed) << place;
         }
         if word == expected {
@@ -118,7 +119,7 @@ pub fn check_history<L: Supervisor>(mut lane: L, calls: &[Call]) -> Result<(), B
             _ => 0,
         };
         checker
-            .observe::<L::Stopping>(call, answer.is_err(), word, lane.lane().present())
+            .observe::<L::Stopping>(call, answer.is_err(), word, lane.lane())
             .map_err(|breach| format!("call {index}, {call:?}: {breach}"))?;
     }
     Ok(())

@@ -1,7 +1,7 @@
 //! Short ways to lanes, wishes and texts.
 #![allow(dead_code)]
 
-use lane_reference::{Carrier, Lane, Road, Supervisor, Wish, PLACES};
+use lane_reference::{Call, Carrier, Lane, Refusal, Road, Supervisor, Wish, PLACES};
 
 /// A carrier from number, position and speed.
 pub fn carrier(number: u64, position: u64, speed: u64) -> Carrier {
@@ -50,4 +50,12 @@ pub fn wishes(first: &[Wish]) -> [Wish; PLACES] {
 pub fn full_lane() -> Lane {
     let carriers: Vec<(u64, u64, u64)> = (1..=64).map(|n| (n, 1_000 - n, 0)).collect();
     lane(0, 10_000, 1_000, &carriers)
+}
+
+/// Asserts that the call is refused with `number` and leaves the lane as it was.
+pub fn refused(lane: &Lane, number: u32, call: Call) {
+    let mut after = *lane;
+    let answer = after.call(&call);
+    assert_eq!(answer.map_err(Refusal::number), Err(number), "{call:?}");
+    assert_eq!(after, *lane, "{call:?} changed the lane");
 }
