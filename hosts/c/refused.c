@@ -114,6 +114,26 @@ static void check_unsound_rows(void) {
     }
 }
 
+/* One line of the first row or of the last that is malformed or makes its row unsound. */
+static void check_refused_lines(void) {
+    const struct {
+        size_t column;
+        const char *line;
+    } cases[] = {
+        {GUARANTEED, "b=0\n"},   {GUARANTEED, "b=216\n"},  {GUARANTEED, "b=032\n"},  {GUARANTEED, "b=-1\n"},
+        {GUARANTEED, "b=\n"},    {GUARANTEED, "b= 32\n"},  {GUARANTEED, "b=32\r\n"}, {GUARANTEED, "B=32\n"},
+        {GUARANTEED, "\n"},      {GUARANTEED, "\nb=32\n"}, {HARDEST, "B=31\n"},      {HARDEST, "B=256\n"},
+        {MOST_ACCELERATION, "A=0\n"}, {MOST_ACCELERATION, "A=256\n"}, {MOST_ACCELERATION, "a=112\n"},
+    };
+    for (size_t i = 0; i < sizeof cases / sizeof cases[0]; i++) {
+        for (size_t row = 0; row < SURFACES; row += SURFACES - 1) {
+            char text[TABLE_BUFFER];
+            const size_t length = table_text(text, FIGURES * row + cases[i].column, cases[i].line);
+            refused_load(31, text, length, lane_of(0));
+        }
+    }
+}
+
 /* 31 comes before 32. */
 static void check_refused_loads(void) {
     char text[TABLE_BUFFER];
@@ -163,6 +183,7 @@ int main(void) {
     check_never_started();
     check_unsound();
     check_unsound_rows();
+    check_refused_lines();
     check_refused_loads();
     check_refused_arguments();
     check_refused_cycles();
