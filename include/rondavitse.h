@@ -1,8 +1,9 @@
 /* Rondavitse: a supervisor for a lane of self-driving container carriers.
  *
- * A lane is a struct of the host's own: each call is lent it and changes it in place. `no` is 0 where a call is accepted; else it is the
- * number of its refusal, every value beside it is zero (but for a step's `next` and `stop`), and every word of the lane and every lent byte
- * is as before. Positions count 1/2048 m, speeds 1/128 m/s, accelerations 1/16 m/s²; a cycle is 1/8 s.
+ * A lane is a struct of the host's own: each call is lent it and changes it in place. A host begins with rondavitse_empty; a lane of zeros
+ * is not empty, since its rows are unsound. `no` is 0 where a call is accepted; else it is the number of its refusal, every value beside it
+ * is zero (but for a step's `next` and `stop`), and every word of the lane and every lent byte is as before. Positions count 1/2048 m,
+ * speeds 1/128 m/s, accelerations 1/16 m/s²; a cycle is 1/8 s.
  *
  * Any words may stand in the lane and any numbers may be given: those of a call are 64 bits wide and refused past their ranges, never cut.
  * The host sees to the pointers:
@@ -30,10 +31,11 @@ extern "C" {
 
 /* The number of this interface, another one whenever a struct, a number, a constant or a function changes. A host asks the library for its
  * own before the first call: where they differ, header and library do not belong together. */
-#define RONDAVITSE_VERSION 1
+#define RONDAVITSE_VERSION 2
 uint32_t rondavitse_version(void);
 
 #define RONDAVITSE_LAST_SURFACE 7
+#define RONDAVITSE_SURFACES (RONDAVITSE_LAST_SURFACE + 1)
 #define RONDAVITSE_FARTHEST_END UINT64_C(2147483648)
 #define RONDAVITSE_FASTEST 8192         /* the highest speed limit */
 #define RONDAVITSE_HIGHEST_NUMBER 65535 /* of a carrier; the lowest is 1 */
@@ -66,7 +68,9 @@ enum rondavitse_refusal {
     RONDAVITSE_UNSAFE_BEHIND_LEADER = 25,
     RONDAVITSE_FOLLOWER_UNSAFE = 26,
     RONDAVITSE_COUNT_DIFFERS = 27,
-    RONDAVITSE_CYCLES_EXHAUSTED = 28
+    RONDAVITSE_CYCLES_EXHAUSTED = 28,
+    RONDAVITSE_TABLE_UNSOUND = 31,
+    RONDAVITSE_LANE_OCCUPIED = 32
 };
 
 static inline const char *rondavitse_words(uint32_t no) {
@@ -93,16 +97,26 @@ static inline const char *rondavitse_words(uint32_t no) {
     case RONDAVITSE_FOLLOWER_UNSAFE: return "the carrier behind not safe";
     case RONDAVITSE_COUNT_DIFFERS: return "count differs from the carriers present";
     case RONDAVITSE_CYCLES_EXHAUSTED: return "cycle number is 2^64 - 1";
+    case RONDAVITSE_TABLE_UNSOUND: return "malformed table text, or an unsound row";
+    case RONDAVITSE_LANE_OCCUPIED: return "carriers are on the lane";
     default: return "unknown refusal";
     }
 }
 
-/* A surface is a code, with guaranteed braking b, hardest braking B and most acceleration A, in 1/16 m/s²:
+/* A surface is a code that stands for a row: guaranteed braking b, hardest braking B and most acceleration A, in 1/16 m/s². A row is sound
+ * if b is 1 to B, B at most 255 and A 1 to 255. The house rows, which serve until a table is loaded:
  *     code   0    1    2    3    4    5    6    7
  *     b     64   56   48   40   32   16    6    1
  *     B    128  120  112   96   96   64   48  255
  *     A     32   32   24   24   16   12    8    1
  */
+typedef struct rondavitse_row {
+    uint64_t guaranteed; /* b */
+    uint64_t hardest;    /* B */
+    uint64_t most;       /* A */
+    uint64_t free[5];
+} rondavitse_row;
+
 typedef struct rondavitse_road {
     uint64_t surface;
     uint64_t end;
@@ -123,8 +137,9 @@ typedef struct rondavitse_record {
     uint64_t free[5];
 } rondavitse_record;
 
-/* The first `count` records are the carriers, front to back. No call's answer depends on a word called free, nor on the records past the
- * carriers; a call that is accepted may leave anything there. */
+/* The first `count` records are the carriers, front to back. An unsound row in either set gets 21, but for what is said at load and start; a
+ * started lane with one among `next_rows` can do neither, and has to be made empty. No call's answer depends on a word called free, nor on
+ * the records past the carriers; a call that is accepted may leave anything there. */
 typedef struct rondavitse_lane {
     uint64_t started; /* 1; any other word counts as never started */
     uint64_t surface;
@@ -133,7 +148,8 @@ typedef struct rondavitse_lane {
     uint64_t cycle; /* the cycle number */
     uint64_t count;
     uint64_t free_figures[2];
-    uint64_t free_tables[2][8][8];
+    rondavitse_row rows[RONDAVITSE_SURFACES];      /* in force, by surface code */
+    rondavitse_row next_rows[RONDAVITSE_SURFACES]; /* what the next start puts in force */
     uint64_t free_slots[RONDAVITSE_MOST_CARRIERS];
     rondavitse_record records[RONDAVITSE_MOST_CARRIERS];
 } rondavitse_lane;
@@ -172,10 +188,16 @@ typedef struct rondavitse_stepped {
     bool stop;      /* 0 or 1; 1 where nothing is left to run: the input has ended, its next block is malformed, or the step is refused */
 } rondavitse_stepped;
 
-/* Makes an empty lane that was never started, whatever was there: every word becomes 0. */
+/* Makes an empty lane that was never started, whatever was there: the house rows in both sets, and every other word 0. */
 void rondavitse_empty(rondavitse_lane *lane);
 
-/* Takes the road and the first cycle number and empties the lane, whatever it held; gives `no`. Checks in order: 1, 2, 3. */
+/* Takes a terminal's own rows for the next start, and changes nothing else; gives `no`. A table text is 24 lines `b=`, `B=` and `A=`, row by
+ * row from code 0, each with its newline and nothing after them: "b=64\nB=128\nA=32\nb=56\n" and so on, numbers decimal without leading
+ * zeros. Checks in order: 21, but a lane never started counts as empty and sound here, whatever it holds; 31, 32. */
+uint32_t rondavitse_load(rondavitse_lane *lane, const uint8_t *text, size_t text_length);
+
+/* Takes the road and the first cycle number, puts `next_rows` in force, which stay the next ones too, and empties the lane, whatever it held;
+ * gives `no`. Checks in order: 21, for an unsound row among `next_rows` and nothing else; 1, 2, 3. */
 uint32_t rondavitse_start(rondavitse_lane *lane, rondavitse_road road, uint64_t first);
 
 /* The carrier goes in at the place found, if it and the one behind it are safe there. Checks: 21, 4, 5, 6, 22, 23, 25, 26. */

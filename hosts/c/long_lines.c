@@ -1,7 +1,8 @@
-/* That of a line without an end no more than 64 bytes are looked at, the most that a line has with its newline: the bytes after them are on
- * pages that cannot be read, so that one look further ends this program. */
+/* That of a line without an end no more than 64 bytes are looked at, the most that a line has with its newline, and no byte past a table
+ * text's end: the bytes after them are on pages that cannot be read, so that one look further ends this program. */
 #define _DEFAULT_SOURCE /* mmap's MAP_ANONYMOUS */
 #include "compare.h"
+#include "table.h"
 
 #include <string.h>
 #include <sys/mman.h>
@@ -23,14 +24,26 @@ static void map_pages(void) {
     page = pages;
 }
 
-/* The text at the page's end, with what cannot be read counted to the input, is malformed and changes nothing. */
-static void expect_malformed(const char *text, size_t length) {
-    uint8_t out[RONDAVITSE_ANSWER_BUFFER];
-    rondavitse_lane lane, kept;
+/* Puts a text at the page's end and gives its place. */
+static size_t put_at_end(const char *text, size_t length) {
     const size_t at = page_size - length;
     memcpy(page + at, text, length);
+    return at;
+}
+
+/* Never started, so that a load takes it for empty and sound. */
+static rondavitse_lane any_lane(void) {
+    rondavitse_lane lane;
     memset(&lane, 0xB7, sizeof lane);
-    kept = lane;
+    return lane;
+}
+
+/* The text at the page's end, with what cannot be read counted to the input, is malformed and changes nothing. */
+static void expect_malformed_block(const char *text, size_t length) {
+    uint8_t out[RONDAVITSE_ANSWER_BUFFER];
+    rondavitse_lane lane = any_lane();
+    const rondavitse_lane kept = lane;
+    const size_t at = put_at_end(text, length);
     const rondavitse_stepped got = rondavitse_step(&lane, page, page_size + UNREADABLE, at, out, sizeof out);
     same(text, "no", got.no, RONDAVITSE_ACCEPTED);
     same(text, "next", got.next, at);
@@ -40,10 +53,23 @@ static void expect_malformed(const char *text, size_t length) {
     same(text, "lane", (uint64_t)memcmp(&lane, &kept, sizeof lane), 0);
 }
 
+/* A load of the text at the page's end, with so many bytes that cannot be read, gives `no`, and changes the lane only if it is accepted. */
+static void expect_load(uint32_t no, const char *text, size_t length, size_t unreadable) {
+    rondavitse_lane lane = any_lane();
+    const rondavitse_lane kept = lane;
+    const size_t at = put_at_end(text, length);
+    same(text, "no", rondavitse_load(&lane, page + at, length + unreadable), no);
+    same(text, "lane changed", memcmp(&lane, &kept, sizeof lane) != 0, no == RONDAVITSE_ACCEPTED);
+}
+
+static void expect_malformed_table(const char *text, size_t length) {
+    expect_load(RONDAVITSE_TABLE_UNSOUND, text, length, UNREADABLE);
+}
+
 /* After `lines` one that begins so and goes on with `filling`: 64 bytes with no end that can be read, then 64 and 65 with their newline. No
  * line that means something is so long. */
-static void check_line(const char *lines, const char *begun, char filling) {
-    char text[256];
+static void check_line(void (*expect_malformed)(const char *, size_t), const char *lines, const char *begun, char filling) {
+    char text[TABLE_BUFFER];
     const size_t before = strlen(lines), length = before + LONGEST_LINE;
     strcpy(text, lines);
     memset(text + before, filling, LONGEST_LINE);
@@ -55,19 +81,42 @@ static void check_line(const char *lines, const char *begun, char filling) {
     expect_malformed(text, length);
 }
 
+static void check_blocks(void) {
+    check_line(expect_malformed_block, "", "", 'x');
+    check_line(expect_malformed_block, "", "call=", 'x');
+    check_line(expect_malformed_block, "", "call=show", ' ');
+    check_line(expect_malformed_block, "call=start\n", "surface=", '0');
+    check_line(expect_malformed_block, "call=start\nsurface=0\nend=1\nlimit=1\n", "cycle=", '1');
+    check_line(expect_malformed_block, "call=enter\n", "car=7", ' ');
+    check_line(expect_malformed_block, "call=enter\ncar=7\n", "at=", '0');
+    check_line(expect_malformed_block, "call=leave\n", "car=", '1');
+    check_line(expect_malformed_block, "call=cycle\n", "cars=", '1');
+    check_line(expect_malformed_block, "call=cycle\ncars=1\n", "want=hold", ' ');
+    check_line(expect_malformed_block, "call=cycle\ncars=2\nwant=hold\n", "want=units:", '1');
+    check_line(expect_malformed_block, "call=cycle\ncars=2\nwant=hold\n", "want=accel:", 'A');
+}
+
+/* Each line of a table text in turn without an end, and the text cut off at each of its bytes. */
+static void check_tables(void) {
+    char text[TABLE_BUFFER], lines[TABLE_BUFFER];
+    const size_t length = table_text(text, TABLE_LINES, "");
+    const char *line = text;
+    for (size_t i = 0; i < TABLE_LINES; i++, line = strchr(line, '\n') + 1) {
+        const char begun[] = {line[0], '=', '\0'};
+        sprintf(lines, "%.*s", (int)(line - text), text);
+        check_line(expect_malformed_table, lines, begun, '0');
+        check_line(expect_malformed_table, lines, begun, '1');
+        check_line(expect_malformed_table, lines, "", 'x');
+    }
+    for (size_t cut = 0; cut < length; cut++) {
+        expect_load(RONDAVITSE_TABLE_UNSOUND, text, cut, 0);
+    }
+    expect_load(RONDAVITSE_ACCEPTED, text, length, 0);
+}
+
 int main(void) {
     map_pages();
-    check_line("", "", 'x');
-    check_line("", "call=", 'x');
-    check_line("", "call=show", ' ');
-    check_line("call=start\n", "surface=", '0');
-    check_line("call=start\nsurface=0\nend=1\nlimit=1\n", "cycle=", '1');
-    check_line("call=enter\n", "car=7", ' ');
-    check_line("call=enter\ncar=7\n", "at=", '0');
-    check_line("call=leave\n", "car=", '1');
-    check_line("call=cycle\n", "cars=", '1');
-    check_line("call=cycle\ncars=1\n", "want=hold", ' ');
-    check_line("call=cycle\ncars=2\nwant=hold\n", "want=units:", '1');
-    check_line("call=cycle\ncars=2\nwant=hold\n", "want=accel:", 'A');
+    check_blocks();
+    check_tables();
     return verdict();
 }

@@ -1,9 +1,10 @@
-/* A worked host: five minutes of a lane with an entry at its start, a side road, an exit and an end that carriers run out at.
- * It prints a summary that is the same in every run. */
+/* A worked host: five minutes of a lane with an entry at its start, a side road, an exit and an end that carriers run out at, on surface
+ * figures of the terminal's own. It prints a summary that is the same in every run. */
 #include "rondavitse.h"
 
 #include <stdio.h>
 #include <stdlib.h>
+#include <string.h>
 
 enum {
     METRE = 2048,           /* positions count 1/2048 m */
@@ -13,8 +14,18 @@ enum {
     LANE_END = 400 * METRE,
     SPEED_LIMIT = 20 * METRE_PER_SECOND,
     SIDE_ROAD = 120 * METRE,
-    LAST_REFUSAL = RONDAVITSE_CYCLES_EXHAUSTED
+    LAST_REFUSAL = RONDAVITSE_LANE_OCCUPIED
 };
+
+/* What the terminal has measured of its concrete, a row for each surface code. */
+static const char TABLE[] = "b=58\nB=132\nA=30\n"
+                            "b=52\nB=124\nA=30\n"
+                            "b=45\nB=110\nA=24\n"
+                            "b=38\nB=100\nA=22\n"
+                            "b=30\nB=92\nA=16\n"
+                            "b=15\nB=70\nA=12\n"
+                            "b=5\nB=50\nA=8\n"
+                            "b=1\nB=255\nA=1\n";
 
 #define EXIT_POSITION 300.0 /* m */
 
@@ -42,10 +53,17 @@ static void expect_accepted(const char *call, uint32_t no) {
     }
 }
 
+/* The table's first `length` bytes. */
+static uint32_t load(host *h, size_t length) {
+    return rondavitse_load(&h->lane, (const uint8_t *)TABLE, length);
+}
+
+/* The codes mean the table's rows from the next start on, so it is loaded before. */
 static void start(host *h) {
     const rondavitse_road road = {.surface = DRY, .end = LANE_END, .limit = SPEED_LIMIT};
     *h = (host){.next_number = 1, .closest = LANE_END};
     rondavitse_empty(&h->lane);
+    expect_accepted("load", load(h, strlen(TABLE)));
     expect_accepted("start", rondavitse_start(&h->lane, road, 0));
 }
 
@@ -157,6 +175,14 @@ static void let_carriers_out(host *h) {
     }
 }
 
+/* A load that is refused leaves the lane, and the rows for its next start, as they were. */
+static void try_table(host *h, const char *table, size_t length) {
+    const uint32_t no = load(h, length);
+    if (no != RONDAVITSE_ACCEPTED) {
+        printf("%s refused with %u (%s)\n", table, (unsigned)no, rondavitse_words(no));
+    }
+}
+
 static void print_summary(const host *h) {
     uint8_t text[RONDAVITSE_LONGEST_TEXT];
     const rondavitse_listed answer = rondavitse_lane_text(&h->lane, text, sizeof text);
@@ -188,6 +214,8 @@ int main(void) {
         watch(&h);
         let_carriers_out(&h);
     }
+    try_table(&h, "table on a lane in use", strlen(TABLE));
+    try_table(&h, "table cut short", strlen(TABLE) - 1);
     print_summary(&h);
     return EXIT_SUCCESS;
 }

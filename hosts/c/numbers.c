@@ -1,5 +1,6 @@
 /* That no number is cut in silence and every refusal has words: what the header's inline functions give, and what the library makes of it. */
 #include "compare.h"
+#include "table.h"
 
 #include <string.h>
 
@@ -34,6 +35,26 @@ static void check_all_units(void) {
     }
 }
 
+/* Each line of a table text with this number gives `no`. */
+static void check_table_number(const char *number, uint32_t no) {
+    for (size_t line = 0; line < TABLE_LINES; line++) {
+        char text[TABLE_BUFFER], other[32];
+        rondavitse_lane lane;
+        rondavitse_empty(&lane);
+        sprintf(other, "%c=%s\n", "bBA"[line % FIGURES], number);
+        const size_t length = table_text(text, line, other);
+        same("table number", number, rondavitse_load(&lane, (const uint8_t *)text, length), no);
+    }
+}
+
+static void check_table_numbers(void) {
+    check_table_number("100", RONDAVITSE_ACCEPTED);
+    check_table_number("356", RONDAVITSE_TABLE_UNSOUND); /* 100 more than what 8, 16, 32 and 64 bits hold */
+    check_table_number("65636", RONDAVITSE_TABLE_UNSOUND);
+    check_table_number("4294967396", RONDAVITSE_TABLE_UNSOUND);
+    check_table_number("18446744073709551716", RONDAVITSE_TABLE_UNSOUND);
+}
+
 static void check_floats(void) {
     same("float", "1.5", rondavitse_float(1.5f), 0x3FC00000);
     same("float", "-16", rondavitse_float(-16.0f), 0xC1800000);
@@ -42,7 +63,7 @@ static void check_floats(void) {
 
 static void check_words(void) {
     for (uint32_t no = 0; no < 100; no++) {
-        const bool known = no <= 13 || (no >= 21 && no <= 28);
+        const bool known = no <= 13 || (no >= 21 && no <= 28) || no == 31 || no == 32;
         same("words", "known", strcmp(rondavitse_words(no), "unknown refusal") != 0, known);
     }
     same("words", "of the largest number", (uint64_t)strcmp(rondavitse_words(UINT32_MAX), "unknown refusal"), 0);
@@ -50,6 +71,7 @@ static void check_words(void) {
 
 int main(void) {
     check_all_units();
+    check_table_numbers();
     check_floats();
     check_words();
     return verdict();

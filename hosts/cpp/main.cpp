@@ -5,6 +5,7 @@
 #include <cinttypes>
 #include <cstdio>
 #include <stdexcept>
+#include <string>
 #include <vector>
 
 struct Refused : std::runtime_error {
@@ -19,11 +20,12 @@ struct Wish {
 
 class Lane {
   public:
-    Lane(rondavitse_road road, uint64_t first) {
+    Lane(const std::string &table, rondavitse_road road, uint64_t first) {
         if (rondavitse_version() != RONDAVITSE_VERSION) {
             throw std::logic_error("header and library do not belong together");
         }
         rondavitse_empty(&words);
+        check(rondavitse_load(&words, reinterpret_cast<const uint8_t *>(table.data()), table.size()));
         check(rondavitse_start(&words, road, first));
     }
 
@@ -62,7 +64,11 @@ class Lane {
 };
 
 int main() {
-    Lane lane({0, 10000, 1000}, 0);
+    std::string table; // of a terminal on which all surfaces are alike
+    for (int code = 0; code < RONDAVITSE_SURFACES; code++) {
+        table += "b=60\nB=120\nA=30\n";
+    }
+    Lane lane(table, {0, 10000, 1000}, 0);
     for (const rondavitse_carrier carrier : {rondavitse_carrier{7, 1000, 0}, {8, 700, 64}, {9, 700, 64}}) {
         try {
             std::printf("carrier %" PRIu64 " enters at place %zu\n", carrier.number, lane.enter(carrier));

@@ -6,7 +6,7 @@ import ctypes
 import sys
 from ctypes import byref, c_char_p, c_double, c_size_t, c_uint8, c_uint32, c_uint64
 
-VERSION, WORDS_OF_A_LANE = 1, 712  # of the interface that the structs below are of
+VERSION, SURFACES, WORDS_OF_A_LANE = 2, 8, 712  # of the interface that the structs below are of
 UNITS, HOLD = 0, 3
 
 
@@ -41,10 +41,12 @@ def units(number):
 
 
 class Supervisor:
-    def __init__(self, path, road, first):
-        self.library, self.lane = ctypes.CDLL(path), Lane()  # of zeros: empty and never started
+    def __init__(self, path, table, road, first):
+        self.library, self.lane = ctypes.CDLL(path), Lane()
         if self.called("version", c_uint32) != VERSION:
             raise ImportError(f"{path} is of another version")
+        self.called("empty", None, byref(self.lane))
+        self.check(self.called("load", c_uint32, byref(self.lane), table, c_size_t(len(table))))
         self.check(self.called("start", c_uint32, byref(self.lane), Three(*map(wide, road)), wide(first)))
 
     def called(self, name, result, *arguments):
@@ -74,7 +76,8 @@ class Supervisor:
 
 
 def main(path):
-    lane = Supervisor(path, (0, 10000, 1000), 0)
+    table = b"b=60\nB=120\nA=30\n" * SURFACES  # of a terminal on which all surfaces are alike
+    lane = Supervisor(path, table, (0, 10000, 1000), 0)
     for carrier in ((7, 1000, 0), (8, 700, 64), (9, 700, 64)):
         try:
             print(f"carrier {carrier[0]} enters at place {lane.enter(*carrier)}")

@@ -1,7 +1,8 @@
 //! The functions and structs of `rondavitse.h`.
 
 /// The interface that this file is for.
-pub const VERSION: u32 = 1;
+pub const VERSION: u32 = 2;
+pub const SURFACES: usize = 8;
 pub const MOST_CARRIERS: usize = 64;
 pub const LONGEST_TEXT: usize = 2_248;
 pub const ANSWER_BUFFER: usize = 4_096;
@@ -22,6 +23,17 @@ pub struct Carrier {
     pub speed: u64,
 }
 
+/// What a surface code stands for, in 1/16 m/s²: guaranteed braking, hardest
+/// braking and most acceleration.
+#[repr(C)]
+#[derive(Clone, Copy, Debug, Default, PartialEq, Eq)]
+pub struct Row {
+    pub guaranteed: u64,
+    pub hardest: u64,
+    pub most: u64,
+    pub free: [u64; 5],
+}
+
 /// A carrier as it stands in the lane.
 #[repr(C)]
 #[derive(Clone, Copy, Debug, Default, PartialEq, Eq)]
@@ -40,7 +52,10 @@ pub struct Lane {
     pub cycle: u64,
     pub count: u64,
     pub free_figures: [u64; 2],
-    pub free_tables: [[[u64; 8]; 8]; 2],
+    /// In force, by surface code.
+    pub rows: [Row; SURFACES],
+    /// What the next start puts in force.
+    pub next_rows: [Row; SURFACES],
     pub free_slots: [u64; MOST_CARRIERS],
     pub records: [Record; MOST_CARRIERS],
 }
@@ -98,28 +113,13 @@ pub const TARGET_SPEED: u8 = 2;
 pub const HOLD: u8 = 3;
 
 impl Lane {
-    /// All words 0: empty and never started.
-    pub const EMPTY: Lane = Lane {
-        started: 0,
-        road: Road {
-            surface: 0,
-            end: 0,
-            limit: 0,
-        },
-        cycle: 0,
-        count: 0,
-        free_figures: [0; 2],
-        free_tables: [[[0; 8]; 8]; 2],
-        free_slots: [0; MOST_CARRIERS],
-        records: [Record {
-            carrier: Carrier {
-                number: 0,
-                position: 0,
-                speed: 0,
-            },
-            free: [0; 5],
-        }; MOST_CARRIERS],
-    };
+    /// Never started, with the house rows in both sets and every other word 0.
+    pub fn empty() -> Lane {
+        // Plain words: zeros do until the library writes them.
+        let mut lane = unsafe { std::mem::zeroed() };
+        unsafe { rondavitse_empty(&mut lane) };
+        lane
+    }
 }
 
 // The functions take any numbers and any lane: what must hold is only that a
@@ -128,6 +128,7 @@ impl Lane {
 extern "C" {
     pub fn rondavitse_version() -> u32;
     pub fn rondavitse_empty(lane: &mut Lane);
+    pub fn rondavitse_load(lane: &mut Lane, text: *const u8, text_length: usize) -> u32;
     pub fn rondavitse_start(lane: &mut Lane, road: Road, first: u64) -> u32;
     pub fn rondavitse_enter(lane: &mut Lane, carrier: Carrier) -> Entered;
     pub fn rondavitse_leave(lane: &mut Lane, number: u64) -> u32;

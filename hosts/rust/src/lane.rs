@@ -51,17 +51,21 @@ impl Wish {
 }
 
 impl Lane {
-    /// An empty lane, just started. Panics where the linked library is of
-    /// another version than the binding.
-    pub fn started(road: Road, first: u64) -> Result<Lane, Refusal> {
+    /// An empty lane on the house rows, to be started. Panics where the linked
+    /// library is of another version than the binding.
+    pub fn empty() -> Lane {
         assert_eq!(
             unsafe { rondavitse_version() },
             VERSION,
             "the library's version"
         );
-        let mut lane = Lane(binding::Lane::EMPTY);
-        lane.start(road, first)?;
-        Ok(lane)
+        Lane(binding::Lane::empty())
+    }
+
+    /// Takes a terminal's own surface figures, 24 lines `b=`, `B=` and `A=` row
+    /// by row, which the codes mean from the next start on.
+    pub fn load(&mut self, text: &[u8]) -> Result<(), Refusal> {
+        Refusal::check(unsafe { rondavitse_load(&mut self.0, text.as_ptr(), text.len()) })
     }
 
     /// Empties the lane and begins anew with the first cycle number.

@@ -1,6 +1,7 @@
 //! A worked host: five minutes of a lane with an entry at its start, a side
-//! road, an exit and an end that carriers run out at. It prints a summary that
-//! is the same in every run, and the same as that of the host in C.
+//! road, an exit and an end that carriers run out at, on surface figures of the
+//! terminal's own. It prints a summary that is the same in every run, and the
+//! same as that of the host in C.
 
 use rondavitse::{Carrier, Lane, Reading, Refusal, Road, Wish};
 use std::collections::BTreeMap;
@@ -14,6 +15,15 @@ const ROAD: Road = Road {
     end: 400 * METRE,
     limit: 20 * METRE_PER_SECOND,
 };
+/// What the terminal has measured of its concrete, a row for each surface code.
+const TABLE: &[u8] = b"b=58\nB=132\nA=30\n\
+b=52\nB=124\nA=30\n\
+b=45\nB=110\nA=24\n\
+b=38\nB=100\nA=22\n\
+b=30\nB=92\nA=16\n\
+b=15\nB=70\nA=12\n\
+b=5\nB=50\nA=8\n\
+b=1\nB=255\nA=1\n";
 const SIDE_ROAD: u64 = 120 * METRE;
 /// In metres.
 const EXIT_POSITION: f64 = 300.0;
@@ -33,9 +43,14 @@ struct Host {
 }
 
 impl Host {
+    /// The codes mean the table's rows from the next start on, so it is loaded
+    /// before.
     fn started() -> Result<Host, Refusal> {
+        let mut lane = Lane::empty();
+        lane.load(TABLE)?;
+        lane.start(ROAD, 0)?;
         Ok(Host {
-            lane: Lane::started(ROAD, 0)?,
+            lane,
             next_number: 1,
             admitted: 0,
             refused: BTreeMap::new(),
@@ -113,6 +128,14 @@ impl Host {
         Ok(())
     }
 
+    /// A load that is refused leaves the lane, and the rows for its next start,
+    /// as they were.
+    fn try_table(&mut self, table: &str, text: &[u8]) {
+        if let Err(refusal) = self.lane.load(text) {
+            println!("{table} refused with {refusal}");
+        }
+    }
+
     fn print_summary(&self) -> Result<(), Refusal> {
         println!("cycles run: {CYCLES}");
         println!("entries admitted: {}", self.admitted);
@@ -152,5 +175,7 @@ fn main() -> Result<(), Refusal> {
         host.watch()?;
         host.let_carriers_out()?;
     }
+    host.try_table("table on a lane in use", TABLE);
+    host.try_table("table cut short", &TABLE[..TABLE.len() - 1]);
     host.print_summary()
 }

@@ -28,12 +28,14 @@ pub enum Refusal {
     FollowerUnsafe = 26,
     CountDiffers = 27,
     CyclesExhausted = 28,
+    TableUnsound = 31,
+    LaneOccupied = 32,
 }
 
 use Refusal::*;
 
 /// Every refusal and what it says.
-const WORDS: [(Refusal, &str); 21] = [
+const WORDS: [(Refusal, &str); 23] = [
     (SurfaceUnknown, "surface above 7"),
     (EndOutOfRange, "lane end outside 1 to 2^31"),
     (LimitOutOfRange, "limit outside 1 to 8,192"),
@@ -64,6 +66,8 @@ const WORDS: [(Refusal, &str); 21] = [
     (FollowerUnsafe, "the carrier behind not safe"),
     (CountDiffers, "count differs from the carriers present"),
     (CyclesExhausted, "cycle number is 2^64 - 1"),
+    (TableUnsound, "malformed table text, or an unsound row"),
+    (LaneOccupied, "carriers are on the lane"),
 ];
 
 impl Refusal {

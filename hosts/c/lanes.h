@@ -1,0 +1,107 @@
+/* Lanes for the tests, each word with a value that no other one has, and comparisons of them. */
+#ifndef LANES_H
+#define LANES_H
+
+#include "compare.h"
+#include "table.h"
+
+#include <string.h>
+
+enum { MOST = RONDAVITSE_MOST_CARRIERS, SURFACES = RONDAVITSE_SURFACES, WORDS = sizeof(rondavitse_lane) / sizeof(uint64_t) };
+
+static const rondavitse_road ROAD = {.surface = 5, .end = 0x7A6B5C4D, .limit = 0x1E2D};
+static const uint64_t CYCLE = 0x1122334455667788;
+
+/* Every word of a lane, free ones included. */
+static void same_words(const char *call, const rondavitse_lane *got, const rondavitse_lane *wanted) {
+    uint64_t words[2][WORDS];
+    memcpy(words[0], got, sizeof *got);
+    memcpy(words[1], wanted, sizeof *wanted);
+    for (size_t i = 0; i < WORDS; i++) {
+        char name[32];
+        sprintf(name, "word %u", (unsigned)i);
+        same(call, name, words[0][i], words[1][i]);
+    }
+}
+
+static void same_rows(const char *call, const rondavitse_row *got, const rondavitse_row *wanted) {
+    for (size_t code = 0; code < SURFACES; code++) {
+        same(call, "guaranteed braking", got[code].guaranteed, wanted[code].guaranteed);
+        same(call, "hardest braking", got[code].hardest, wanted[code].hardest);
+        same(call, "most acceleration", got[code].most, wanted[code].most);
+    }
+}
+
+/* What counts of a lane: its figures, its rows and its carriers. */
+static void same_state(const char *call, const rondavitse_lane *got, const rondavitse_lane *wanted) {
+    same(call, "started", got->started, wanted->started);
+    same(call, "surface", got->surface, wanted->surface);
+    same(call, "end", got->end, wanted->end);
+    same(call, "limit", got->limit, wanted->limit);
+    same(call, "cycle", got->cycle, wanted->cycle);
+    same(call, "count", got->count, wanted->count);
+    same_rows(call, got->rows, wanted->rows);
+    same_rows(call, got->next_rows, wanted->next_rows);
+    for (size_t i = 0; i < wanted->count; i++) {
+        same(call, "number", got->records[i].number, wanted->records[i].number);
+        same(call, "position", got->records[i].position, wanted->records[i].position);
+        same(call, "speed", got->records[i].speed, wanted->records[i].speed);
+    }
+}
+
+/* The rows of a set; their free words stay. */
+static void put_rows(rondavitse_row *rows, size_t first) {
+    for (size_t code = 0; code < SURFACES; code++) {
+        rows[code].guaranteed = figure_of(first + code, GUARANTEED);
+        rows[code].hardest = figure_of(first + code, HARDEST);
+        rows[code].most = figure_of(first + code, MOST_ACCELERATION);
+    }
+}
+
+/* A lane that no call but a start accepts, with a value of its own in every word but the first. */
+static rondavitse_lane unsound_lane(void) {
+    rondavitse_lane lane;
+    uint64_t words[WORDS];
+    for (size_t i = 0; i < WORDS; i++) {
+        words[i] = UINT64_C(0xB1B2B3B4B5B60000) + i;
+    }
+    memcpy(&lane, words, sizeof lane);
+    lane.started = 1;
+    put_rows(lane.next_rows, NEXT);
+    return lane;
+}
+
+/* The carrier at a place, all slow and far apart, with the bytes of a figure unlike each other. */
+static rondavitse_carrier carrier_at(size_t place) {
+    return (rondavitse_carrier){
+        .number = 0xA1C2 + 0x0101 * place,
+        .position = 0x7A69584C - 0x01010101 * place,
+        .speed = 0x0102 + place,
+    };
+}
+
+/* A sound lane; its free words and the records past the carriers hold anything. */
+static rondavitse_lane lane_of(size_t count) {
+    rondavitse_lane lane = unsound_lane();
+    lane.surface = ROAD.surface;
+    lane.end = ROAD.end;
+    lane.limit = ROAD.limit;
+    lane.cycle = CYCLE;
+    lane.count = count;
+    put_rows(lane.rows, IN_FORCE);
+    for (size_t place = 0; place < count; place++) {
+        const rondavitse_carrier c = carrier_at(place);
+        lane.records[place].number = c.number;
+        lane.records[place].position = c.position;
+        lane.records[place].speed = c.speed;
+    }
+    return lane;
+}
+
+static uint32_t load(rondavitse_lane *lane) {
+    char text[TABLE_BUFFER];
+    const size_t length = table_text(text, TABLE_LINES, "");
+    return rondavitse_load(lane, (const uint8_t *)text, length);
+}
+
+#endif

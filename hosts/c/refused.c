@@ -1,0 +1,191 @@
+/* That a refused call gives its number and zeros, and changes no word of the lane and no lent byte. */
+#include "lanes.h"
+
+static void refused_start(uint32_t no, rondavitse_road road, rondavitse_lane lane) {
+    const rondavitse_lane kept = lane;
+    same("refused start", "no", rondavitse_start(&lane, road, CYCLE), no);
+    same_words("refused start", &lane, &kept);
+}
+
+static void refused_load(uint32_t no, const char *text, size_t length, rondavitse_lane lane) {
+    const rondavitse_lane kept = lane;
+    same("refused load", "no", rondavitse_load(&lane, (const uint8_t *)text, length), no);
+    same_words("refused load", &lane, &kept);
+}
+
+static void refused_enter(uint32_t no, rondavitse_carrier carrier, rondavitse_lane lane) {
+    const rondavitse_lane kept = lane;
+    const rondavitse_entered got = rondavitse_enter(&lane, carrier);
+    same("refused enter", "no", got.no, no);
+    same("refused enter", "place", got.place, 0);
+    same_words("refused enter", &lane, &kept);
+}
+
+static void refused_named(uint32_t no, uint64_t number, rondavitse_lane lane) {
+    const rondavitse_lane kept = lane;
+    same("refused leave", "no", rondavitse_leave(&lane, number), no);
+    same_words("refused leave", &lane, &kept);
+    const rondavitse_read_out got = rondavitse_read(&lane, number);
+    same("refused read", "no", got.no, no);
+    same("refused read", "position", got.reading.position != 0, 0);
+    same("refused read", "speed", got.reading.speed != 0, 0);
+    same_words("refused read", &lane, &kept);
+}
+
+static void refused_text(uint32_t no, rondavitse_lane lane) {
+    const rondavitse_lane kept = lane;
+    uint8_t text[2] = {0x5A, 0xA5};
+    const rondavitse_listed got = rondavitse_lane_text(&lane, text, sizeof text);
+    same("refused lane text", "no", got.no, no);
+    same("refused lane text", "length", got.length, 0);
+    same("refused lane text", "first byte", text[0], 0x5A);
+    same("refused lane text", "second byte", text[1], 0xA5);
+    same_words("refused lane text", &lane, &kept);
+}
+
+/* Two wishes, or one value fewer. */
+static void refused_cycle(uint32_t no, size_t count, const uint8_t *sorts, size_t values_length, rondavitse_lane lane) {
+    const uint32_t values[] = {0x7FC00000, 0x8000};
+    const rondavitse_lane kept = lane;
+    const rondavitse_cycled got = rondavitse_cycle(&lane, count, sorts, 2, values, values_length);
+    same("refused cycle", "no", got.no, no);
+    same("refused cycle", "word", got.word, 0);
+    same("refused cycle", "replaced", got.replaced, 0);
+    same("refused cycle", "gone", got.gone, 0);
+    same_words("refused cycle", &lane, &kept);
+}
+
+/* Each argument by itself is of no use; 21 comes first all the same. */
+static void check_21(rondavitse_lane lane) {
+    const uint8_t no_sorts[] = {4, 4};
+    if (lane.started == 1) {
+        refused_load(21, "", 0, lane);
+    }
+    refused_enter(21, (rondavitse_carrier){0, 0, 0}, lane);
+    refused_named(21, 0, lane);
+    refused_text(21, lane);
+    refused_cycle(21, 3, no_sorts, 1, lane);
+}
+
+/* A load takes a lane that was never started for an empty and sound one, whatever it holds. */
+static void check_never_started(void) {
+    const uint64_t never_started[] = {0, 2, 0x100, UINT64_C(0x100000001), UINT64_MAX};
+    for (size_t i = 0; i < sizeof never_started / sizeof never_started[0]; i++) {
+        rondavitse_lane lane = lane_of(2), wanted;
+        lane.started = never_started[i];
+        check_21(lane);
+        lane.rows[0].most = 0;
+        lane.next_rows[0].most = 0;
+        refused_load(31, "", 0, lane);
+        wanted = lane;
+        put_rows(wanted.next_rows, LOADED);
+        same("load before any start", "no", load(&lane), 0);
+        same_state("load before any start", &lane, &wanted);
+    }
+}
+
+static void check_unsound(void) {
+    check_21(unsound_lane());
+    for (size_t i = 0; i < 7; i++) {
+        rondavitse_lane lane = lane_of(2);
+        rondavitse_record *rear = &lane.records[1];
+        uint64_t *figures[] = {&lane.surface, &lane.end, &lane.limit, &lane.count, &rear->number, &rear->position, &rear->speed};
+        *figures[i] += UINT64_C(1) << 32;
+        check_21(lane);
+    }
+}
+
+/* Each way for a row to be unsound, at every code of both sets. A start looks at the next rows alone, before its arguments. */
+static void check_unsound_rows(void) {
+    const rondavitse_row unsound[] = {
+        {0, 255, 1, {0}}, {256, 255, 1, {0}}, {2, 1, 1, {0}}, {1, 256, 1, {0}}, {1, 255, 0, {0}}, {1, 255, 256, {0}},
+        {1, (UINT64_C(1) << 32) + 1, 1, {0}}, {1, 1, (UINT64_C(1) << 32) + 1, {0}},
+    };
+    for (size_t i = 0; i < sizeof unsound / sizeof unsound[0]; i++) {
+        for (size_t code = 0; code < SURFACES; code++) {
+            rondavitse_lane in_force = lane_of(2), next = lane_of(2);
+            in_force.rows[code] = unsound[i];
+            next.next_rows[code] = unsound[i];
+            check_21(in_force);
+            check_21(next);
+            refused_start(21, (rondavitse_road){8, 0, 0}, next);
+            same("start", "no", rondavitse_start(&in_force, ROAD, CYCLE), 0);
+        }
+    }
+}
+
+/* One line of the first row or of the last that is malformed or makes its row unsound. */
+static void check_refused_lines(void) {
+    const struct {
+        size_t column;
+        const char *line;
+    } cases[] = {
+        {GUARANTEED, "b=0\n"},   {GUARANTEED, "b=216\n"},  {GUARANTEED, "b=032\n"},  {GUARANTEED, "b=-1\n"},
+        {GUARANTEED, "b=\n"},    {GUARANTEED, "b= 32\n"},  {GUARANTEED, "b=32\r\n"}, {GUARANTEED, "B=32\n"},
+        {GUARANTEED, "\n"},      {GUARANTEED, "\nb=32\n"}, {HARDEST, "B=31\n"},      {HARDEST, "B=256\n"},
+        {MOST_ACCELERATION, "A=0\n"}, {MOST_ACCELERATION, "A=256\n"}, {MOST_ACCELERATION, "a=112\n"},
+    };
+    for (size_t i = 0; i < sizeof cases / sizeof cases[0]; i++) {
+        for (size_t row = 0; row < SURFACES; row += SURFACES - 1) {
+            char text[TABLE_BUFFER];
+            const size_t length = table_text(text, FIGURES * row + cases[i].column, cases[i].line);
+            refused_load(31, text, length, lane_of(0));
+        }
+    }
+}
+
+/* 31 comes before 32. */
+static void check_refused_loads(void) {
+    char text[TABLE_BUFFER];
+    const size_t length = table_text(text, TABLE_LINES, "");
+    refused_load(32, text, length, lane_of(1));
+    strcpy(text + length, "b=1\n");
+    for (size_t count = 0; count < 2; count++) {
+        refused_load(31, text, 0, lane_of(count));
+        refused_load(31, text, length - 1, lane_of(count));
+        refused_load(31, text, length + 1, lane_of(count));
+        refused_load(31, text, length + strlen("b=1\n"), lane_of(count));
+    }
+}
+
+static void check_refused_arguments(void) {
+    const uint64_t wide = UINT64_C(1) << 32;
+    const rondavitse_lane lane = lane_of(2);
+    const uint64_t number = carrier_at(7).number;
+    refused_start(1, (rondavitse_road){wide, 1, 1}, lane);
+    refused_start(2, (rondavitse_road){7, wide + 1, 1}, lane);
+    refused_start(3, (rondavitse_road){7, RONDAVITSE_FARTHEST_END, wide + RONDAVITSE_FASTEST}, lane);
+    refused_enter(4, (rondavitse_carrier){0, 0, 0}, lane);
+    refused_enter(4, (rondavitse_carrier){RONDAVITSE_HIGHEST_NUMBER + 1, 0, 0}, lane);
+    refused_enter(5, (rondavitse_carrier){number, wide, 0}, lane);
+    refused_enter(6, (rondavitse_carrier){number, 0, wide}, lane);
+    refused_enter(23, carrier_at(1), lane);
+    refused_named(4, 0, lane);
+    refused_named(4, carrier_at(1).number + wide, lane);
+    refused_named(24, number, lane);
+    refused_text(9, lane);
+}
+
+static void check_refused_cycles(void) {
+    const uint8_t no_float[] = {RONDAVITSE_ACCELERATION, RONDAVITSE_HOLD};
+    const uint8_t no_sort[] = {RONDAVITSE_ACCELERATION, 4}, no_units[] = {RONDAVITSE_ACCELERATION, RONDAVITSE_UNITS};
+    rondavitse_lane lane = lane_of(2);
+    refused_cycle(7, 2, no_float, 2, lane);
+    refused_cycle(11, 2, no_sort, 2, lane);
+    refused_cycle(11, 2, no_units, 2, lane);
+    refused_cycle(12, 2, no_sort, 1, lane);
+    lane.cycle = RONDAVITSE_LAST_CYCLE;
+    refused_cycle(28, 2, no_sort, 1, lane);
+    refused_cycle(27, 3, no_sort, 1, lane);
+}
+
+int main(void) {
+    check_never_started();
+    check_unsound();
+    check_unsound_rows();
+    check_refused_lines();
+    check_refused_loads();
+    check_refused_arguments();
+    check_refused_cycles();
+    return verdict();
+}
