@@ -1,5 +1,5 @@
 -- What a call does, for the crates above, which leave the calls' definitions shut: laws of every call, and what an accepted one does.
-use mathlib.Core.Path.{_≡_, refl, sym, ap, _∙_, subst}
+use mathlib.Core.Path.{_≡_, refl, sym, _∙_, subst}
 use mathlib.Core.Bool.{Bool, true, false, not, _&&_, cond, true≢false, and-eq-true-iff}
 use mathlib.Core.List.{List, [], _∷_}
 use Prim.Native.Nat.{ℕ, suc, _<_}
@@ -10,7 +10,7 @@ use Rattle.wish.specs.declared.Wish.{Wish}
 use Rattle.lane.specs.declared.Carrier.{Carrier}
 use Rattle.lane.specs.declared.Road.{Road}
 use Rattle.lane.specs.Limits.{farthestEnd, fastest, lastCycle}
-use Rattle.lane.specs.Surface.{houseRows, unsound, rowIn}
+use Rattle.lane.specs.Surface.{houseRows, rowOf, soundRow, unsoundBelow, unsound, rowIn}
 use Rattle.lane.specs.Layout.{tableFrom, stateOf, emptyWords}
 use Rattle.lane.specs.State.{State}
 use Rattle.lane.specs.Safety.{leader, reachTo, safeWith, anyOf, firstPlace, numbered}
@@ -22,7 +22,6 @@ use Rattle.lane.specs.Listing.{laneText, textNo}
 use Rattle.lane.specs.Call.{Call, start-call, load-call, enter-call, leave-call, cycle-call, read-call, text-call, Meaning, meaning, callNo, acceptedState, callState, Kept}
 use Rattle.lane.proofs.lists.Passed.{both}
 use Rattle.lane.proofs.calls.Answers.{accepted-changes, accepted-sound}
-use Rattle.lane.proofs.checks.Surfaces.{house-sound}
 use Rattle.lane.proofs.checks.Soundness.{Sound, sound, sound-holds}
 use Rattle.lane.proofs.calls.Order.{lane-order}
 use Rattle.lane.proofs.calls.Keeps.{start-keeps, load-keeps, enter-keeps, leave-keeps, cycle-keeps}
@@ -182,10 +181,21 @@ pub empty-state : stateOf emptyWords
 unfolding houseRows tableFrom
 empty-state = refl
 
--- and they are sound: what is asked of a start there is its road alone
+-- and they are sound, which is computed here alone: what is asked of a start there is its road
 pub empty-starts : (road : Road) (first : ℕ) → callNo (start-call road first) (stateOf emptyWords) ≡ roadNo road
-unfolding startNo
-empty-starts road first = rw (ap (λ (s : State). s .tables .next) empty-state, house-sound) refl
+unfolding startNo houseRows rowOf soundRow unsoundBelow unsound tableFrom
+empty-starts road first = refl
+
+-- of a lane never started a load asks its text alone, whatever the lane holds
+pub idle-loads : (s : State) (text : List ℕ) → s .started ≡ false → callNo (load-call text) s ≡ cond (badTable (tableIn text)) 31 0
+unfolding loadNo
+idle-loads s text e = rw e refl
+
+-- a started lane with an unsound row for the next start can neither load nor start
+pub unsound-next-stays : (s : State) → s .started ≡ true → unsound (s .tables .next) ≡ true → (text : List ℕ) (road : Road) (first : ℕ)
+    → (callNo (load-call text) s ≡ 21) × (callNo (start-call road first) s ≡ 21)
+unfolding loadNo startNo
+unsound-next-stays s e f text road first = (rw (next-broken s f, e) refl, rw f refl)
 
 -- the rows of the text for the next start, and nothing else
 pub load-accepted : (s : State) (text : List ℕ) → loadNo s text ≡ 0

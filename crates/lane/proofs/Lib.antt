@@ -1,4 +1,4 @@
--- `Laws`, `Alike`, `CallLaws`, `CycleLaws` and `Answerable` are what the crates above may use; `Cases` is the table of the marked cases. Before them stand the
+-- `Laws`, `Alike`, `CallLaws`, `CycleLaws`, `TableLaws` and `Answerable` are what the crates above may use; `Cases` is the table of the marked cases. Before them stand the
 -- laws behind them and behind the functions, in groups; a function's own proof is in a folder of its module's and its own name.
 mod lists
 mod checks
@@ -9,4 +9,5 @@ mod Cases
 pub mod Alike
 pub mod CallLaws
 pub mod CycleLaws
+pub mod TableLaws
 pub mod Answerable

@@ -5,12 +5,23 @@ use mathlib.Core.List.{List, [], _∷_, _++_}
 use lib.Dec.{eqb, ltb}
 use lib.ListN.{length, drop}
 use Rattle.text.specs.Ascii.{ascii}
+use Rattle.text.specs.Numbers.{decimal}
+use Rattle.text.specs.Lines.{line}
 use Rattle.text.specs.Fields.{lineLength, fieldIn, isNumber, valueIn}
 use Rattle.lane.specs.declared.Row.{Row}
 use Rattle.lane.specs.Limits.{surfaces}
 use Rattle.lane.specs.Surface.{row, unsound}
 use Rattle.lane.specs.State.{State}
 use Rattle.lane.specs.Rules.{broken}
+
+-- the text of rows; the law `table-text` says that the reader takes it for them, and takes no other
+unfoldable pub rowText : Row → List ℕ
+rowText r =
+    line (ascii "b=") (decimal (r .guaranteed)) ++ (line (ascii "B=") (decimal (r .hardest)) ++ line (ascii "A=") (decimal (r .most)))
+
+unfoldable pub tableText : List Row → List ℕ
+tableText [] = []
+tableText (r ∷ rs) = rowText r ++ tableText rs
 
 -- what a text holds: rows, code after code, or it is malformed
 pub data Rows : Type 0 where

@@ -1,7 +1,7 @@
 // Which word of a lane is where: no other module knows.
 ghost use mathlib.Core.Path.{_≡_};
-ghost use mathlib.Core.List.{map};
-ghost use Prim.Native.Nat.{_≤_, _<_};
+ghost use mathlib.Core.List.{List, map};
+ghost use Prim.Native.Nat.{ℕ, _≤_, _<_};
 ghost use lib.ListN.{length, getD, set};
 ghost use Rattle.lane.specs.Surface.{rowOf};
 ghost use Rattle.lane.specs.Layout.{surfaceIn, tableFrom, tablesIn, figuresIn, recordsIn, emptyWords};
@@ -131,6 +131,24 @@ pub(crate) fn surface_at(l: &Lane, table: usize, code: usize) -> [u64; 3]
     [row[0], row[1], row[2]]
 }
 
+// A surface row put in a row of the lane; the free words of that row stay.
+fn put_surface(l: &mut Lane, at: usize, surface: [u64; 3])
+    requires { ⌜ at < 89 ⌝ }
+    ensures { λ r. ⌜ ((w : List ℕ) × ((now (l .exit) ≡ set (now (l .entry)) at w) × (surfaceIn w ≡ surfaceIn surface))) ⌝ }
+{
+    let row = l[at];
+    l[at] = [
+        surface[0],
+        surface[1],
+        surface[2],
+        row[3],
+        row[4],
+        row[5],
+        row[6],
+        row[7],
+    ];
+}
+
 // The rows for the next start put anew.
 pub(crate) fn put_next(l: &mut Lane, table: Table)
     ensures { λ r. ⌜ figuresIn (now (l .exit)) ≡ figuresIn (now (l .entry)) ⌝ }
@@ -140,8 +158,8 @@ pub(crate) fn put_next(l: &mut Lane, table: Table)
     sized(l);
     let mut code: usize = 0;
     while code < SURFACES {
-        let row = table[code];
-        l[NEXT + code] = [row[0], row[1], row[2], 0, 0, 0, 0, 0];
+        let surface = table[code];
+        put_surface(l, NEXT + code, surface);
         code += 1;
     }
 }
@@ -155,7 +173,8 @@ pub(crate) fn put_in_force(l: &mut Lane)
     sized(l);
     let mut code: usize = 0;
     while code < SURFACES {
-        l[IN_FORCE + code] = l[NEXT + code];
+        let surface = surface_at(l, NEXT, code);
+        put_surface(l, IN_FORCE + code, surface);
         code += 1;
     }
 }

@@ -1,5 +1,5 @@
 -- The laws of what is read: all that the crates above use of `specs/Fields`, whose definitions they leave shut.
-use mathlib.Core.Path.{_≡_, refl, sym, ap, _∙_}
+use mathlib.Core.Path.{_≡_, refl, sym, ap, ap₂, _∙_}
 use mathlib.Core.Bool.{Bool, true, false, _&&_, and-false, cond, false≢true}
 use mathlib.Core.List.{List, [], _∷_, _++_, append-assoc}
 use Prim.Native.Nat.{ℕ, suc, _+_, _/_, _%_, _^_, _≤_, _<_}
@@ -61,6 +61,33 @@ module _ (key text : List ℕ) (there : hasLine key text ≡ true) where
   line-parts =
       let whole : length (take (lineLength text) text) ≡ lineLength text = length-take-le (lineLength text) text (omega (arith, line-within)) in
       rw there (omega (arith, key-within, length-drop (length key) (take (lineLength text) text)))
+
+-- and the text is that line with what follows it
+starts-is : (key text : List ℕ) → startsWith key text ≡ true → text ≡ key ++ drop (length key) text
+unfolding startsWith
+starts-is [] text e = refl
+starts-is (k ∷ key) [] e = absurd (false≢true e)
+starts-is (k ∷ key) (b ∷ text) e =
+    let t = both (eqb k b) (startsWith key text) e in
+    ap₂ (λ (c : ℕ) (l : List ℕ). c ∷ l) (sym (eqb-true k b (t .0))) (starts-is key text (t .1))
+
+up-to-newline : (text : List ℕ) → lineLength text < length text → text ≡ take (lineLength text) text ++ (10 ∷ drop (suc (lineLength text)) text)
+unfolding lineLength
+up-to-newline [] h = absurd (omega arith)
+up-to-newline (b ∷ bs) h = by-test (eqb b 10) refl h (up-to-newline bs)
+  where
+    by-test : (t : Bool) → eqb b 10 ≡ t → cond t 0 (suc (lineLength bs)) < suc (length bs)
+        → (lineLength bs < length bs → bs ≡ take (lineLength bs) bs ++ (10 ∷ drop (suc (lineLength bs)) bs))
+        → b ∷ bs ≡ take (cond t 0 (suc (lineLength bs))) (b ∷ bs) ++ (10 ∷ drop (suc (cond t 0 (suc (lineLength bs)))) (b ∷ bs))
+    by-test true e h more = ap (λ (c : ℕ). c ∷ bs) (eqb-true b 10 e)
+    by-test false e h more = ap (λ (l : List ℕ). b ∷ l) (more (omega arith))
+
+pub line-whole : (key text : List ℕ) → hasLine key text ≡ true → text ≡ line key (lineValue key text) ++ drop (suc (lineLength text)) text
+unfolding line lineValue
+line-whole key text there =
+    up-to-newline text (omega (arith, line-within key text there))
+    ∙ ap (λ (l : List ℕ). l ++ (10 ∷ drop (suc (lineLength text)) text)) (starts-is key (take (lineLength text) text) (parts key text there .1))
+    ∙ rw there (sym (append-assoc (key ++ drop (length key) (take (lineLength text) text)) (10 ∷ []) (drop (suc (lineLength text)) text)))
 
 -- a value that is not empty is that of a line that is there
 pub value-has : (key text : List ℕ) → 1 ≤ length (lineValue key text) → hasLine key text ≡ true
@@ -222,6 +249,12 @@ module _ (key : List ℕ) (most : ℕ) (text : List ℕ) where
       let h = held (hasLine key text) (numberIn most (lineValue key text)) n e in
       let p = number-put most (lineValue key text) n (h .1) in
       (h .0, p .0, p .1)
+
+  -- the text is that line as it is put, with what follows it
+  pub field-whole : (n : ℕ) → fieldIn key most text ≡ Is n → text ≡ line key (decimal n) ++ drop (suc (lineLength text)) text
+  field-whole n e =
+      let p = field-put n e in
+      line-whole key text (p .0) ∙ ap (λ (v : List ℕ). line key v ++ drop (suc (lineLength text)) text) (p .1)
 
   pub field-at-most : valueIn (fieldIn key most text) ≤ most
   field-at-most = at-most most (fieldIn key most text) (λ n e. field-put n e .2)

@@ -18,7 +18,7 @@ use Rattle.lane.specs.Rules.{badNumber, tooFast, unlawful, pastEnd, newc
 use Rattle.lane.specs.Wishes.{anyOutside}
 use Rattle.lane.specs.Table.{tableIn, badTable, loadNo}
 use Rattle.lane.specs.Calls.{ifAccepted, walk, gapNo, placeNo, enterNo, namedNo, placeOf, readyNo, cycleNo}
-use Rattle.lane.specs.Call.{Call, start-call, enter-call, leave-call, cycle-call, read-call, text-call, Answer, callNo, acceptedState, lentTo, bare, acceptedAnswer, callAnswer, callState, Gives}
+use Rattle.lane.specs.Call.{Call, Answer, callNo, acceptedState, lentTo, bare, acceptedAnswer, callAnswer, callState, Gives}
 use Rattle.lane.proofs.lists.Passed.{passed}
 use Rattle.lane.proofs.lists.Search.{place-any, place-le}
 use Rattle.lane.proofs.checks.Soundness.{Sound, sound}

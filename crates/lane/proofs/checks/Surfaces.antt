@@ -1,6 +1,6 @@
 -- The surface rows: what is known of a sound row, and of each row of a table of which none is unsound.
 use mathlib.Core.Path.{_≡_, refl}
-use mathlib.Core.Bool.{Bool, true, false, not, _&&_, _||_, or-true}
+use mathlib.Core.Bool.{Bool, true, false, not, or-true}
 use mathlib.Core.List.{List}
 use Prim.Native.Nat.{ℕ, zero, suc, _+_, _≤_, _<_}
 use native.Mathlib.Nat.{le-trans}
@@ -9,7 +9,7 @@ use native.Mathlib.Omega.{arith}
 use borrow.Author.Tests.{leb-true, eqb-true, eqb-false, not-false}
 use lib.Dec.{eqb, leb}
 use Rattle.lane.specs.declared.Row.{Row}
-use Rattle.lane.specs.Surface.{houseRows, rowOf, soundRow, unsoundBelow, unsound}
+use Rattle.lane.specs.Surface.{rowOf, soundRow, unsoundBelow, unsound}
 use Rattle.lane.proofs.lists.Passed.{both}
 use Rattle.lane.proofs.lists.Tests.{neither}
 
@@ -82,8 +82,3 @@ module _ (rows : List Row) where
   pub all-passed : (code : ℕ) → 8 ≤ code → code ≤ 8 → unsoundBelow code rows ≡ false → unsound rows ≡ false
   unfolding unsound
   all-passed code h k e = let p : code ≡ 8 = omega arith in rw p at e
-
--- the house rows are sound
-pub house-sound : unsound houseRows ≡ false
-unfolding houseRows rowOf soundRow unsoundBelow unsound
-house-sound = refl

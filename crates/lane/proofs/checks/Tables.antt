@@ -1,5 +1,5 @@
 -- A table of the lane as a loop puts it, row by row, and one that was read as rows.
-use mathlib.Core.Path.{_≡_, refl, sym, ap, _∙_}
+use mathlib.Core.Path.{_≡_, refl, ap, _∙_}
 use mathlib.Core.Bool.{Bool, true, false}
 use mathlib.Core.List.{List, [], map}
 use Prim.Native.Nat.{ℕ, _+_, _≤_, _<_}
@@ -33,17 +33,18 @@ put-start first other source l₀ long =
     record { long = long; within = omega arith; figures = refl; records = refl; other-table = refl; put = λ k h. absurd (omega arith) }
 
 module _ {first other : ℕ} {source : ℕ → Row} {l₀ l : Words} {code : ℕ} (p : Put first other source l₀ l code) where
-  pub put-next : code < 8 → 0 < first → first + 8 ≤ 25 → ((k : ℕ) → k < 8 → ¬ (other + k ≡ first + code)) → (w : List ℕ) → surfaceIn w ≡ source code
-      → Put first other source l₀ (set l (first + code) w) (code + 1)
-  put-next h low high apart w e =
-      record {
+  pub put-next : code < 8 → 0 < first → first + 8 ≤ 25 → ((k : ℕ) → k < 8 → ¬ (other + k ≡ first + code)) → (m : Words) (w : List ℕ)
+      → m ≡ set l (first + code) w → surfaceIn w ≡ source code → Put first other source l₀ m (code + 1)
+  put-next h low high apart m w stored e =
+      rw stored
+      (record {
         long = length-set l (first + code) w ∙ p .long;
         within = omega arith;
         figures = figures-kept l (first + code) w (omega arith) ∙ p .figures;
         records = records-kept l (first + code) w (omega arith) ∙ p .records;
         other-table = table-kept l (first + code) w other apart ∙ p .other-table;
         put = λ k below. by-place k below (eqb k code) refl;
-      }
+      })
     where
       by-place : (k : ℕ) → k < code + 1 → (b : Bool) → eqb k code ≡ b → surfaceIn (getD (set l (first + code) w) (first + k) []) ≡ source k
       by-place k below true q =

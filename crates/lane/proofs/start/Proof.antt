@@ -1,4 +1,4 @@
-use mathlib.Core.Path.{_≡_, sym, ap₂, _∙_}
+use mathlib.Core.Path.{sym, ap₂, _∙_}
 use borrow.Author.Needs.{needs}
 use Rattle.lane.specs.declared.layout.Figures.{Figures}
 use Rattle.lane.specs.Surface.{Tables}

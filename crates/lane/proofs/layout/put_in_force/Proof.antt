@@ -1,14 +1,15 @@
 -- Each turn puts one row of the other table in force.
-use borrow.Author.Needs.{needs}
 use mathlib.Core.Path.{ap, ap₂, _∙_}
 use mathlib.Core.List.{List}
-use Prim.Native.Nat.{_-_, _<_}
+use Prim.Native.Nat.{_-_}
 use native.Mathlib.Omega.{arith}
+use borrow.Author.Needs.{needs}
 use Rattle.lane.specs.declared.Row.{Row}
 use Rattle.lane.specs.Surface.{rowOf}
 use Rattle.lane.specs.Layout.{tableFrom}
-use Rattle.lane.proofs.checks.Records.{surface-at, code-by-code, table-eight}
+use Rattle.lane.proofs.checks.Records.{code-by-code, table-eight}
 use Rattle.lane.proofs.checks.Tables.{Put, put-start, put-next, put-all}
+use borrow.Author.Needs.{needs}
 use Rattle.lane.proofs.layout.put_in_force.Statement.{statement}
 use Rattle.lane.proofs.layout.put_in_force.Tie as tie
 
@@ -24,23 +25,14 @@ sized-requires c κs = search needs
 loop-holds : tie.Need-loop-holds Inv-loop μ-loop
 loop-holds c = put-start 1 9 _ _ (c .sized .ensures .0)
 
-add-l : tie.Need-add-l Inv-loop μ-loop
-add-l c = search needs
+surface-at-requires : tie.Need-surface-at-requires Inv-loop μ-loop
+surface-at-requires c κs = search needs
 
-mul-l : tie.Need-mul-l Inv-loop μ-loop
-mul-l c = search needs
+add-put-surface : tie.Need-add-put-surface Inv-loop μ-loop
+add-put-surface c = search needs
 
-element-copy-out-l : tie.Need-element-copy-out-l Inv-loop μ-loop
-element-copy-out-l c = search needs
-
-add-t11 : tie.Need-add-t11 Inv-loop μ-loop
-add-t11 c = search needs
-
-mul-t12 : tie.Need-mul-t12 Inv-loop μ-loop
-mul-t12 c = search needs
-
-element-set-from-l : tie.Need-element-set-from-l Inv-loop μ-loop
-element-set-from-l c = search needs
+put-surface-requires : tie.Need-put-surface-requires Inv-loop μ-loop
+put-surface-requires c κs = search needs
 
 add-code : tie.Need-add-code Inv-loop μ-loop
 add-code c = search needs
@@ -50,11 +42,12 @@ loop-less c = search needs
 
 loop-again : tie.Need-loop-again Inv-loop μ-loop
 loop-again c =
-    let at = c .before .before in
+    let read = c .before .before in
+    let at = read .before .before .before in
     let inv = at .loop .inv in
-    let h : at .loop .code < 8 = omega arith in
-    put-next inv h (omega arith) (omega arith) (λ k below e. omega arith) _
-    (surface-at (at .loop .l) 9 (at .loop .code) h ∙ ap (λ (t : List Row). rowOf t (at .loop .code)) (inv .other-table))
+    let put = c .put-surface .ensures in
+    put-next inv (omega arith) (omega arith) (omega arith) (λ k below e. omega arith) _ (put .0) (put .1 .0)
+    (put .1 .1 ∙ read .surface-at .ensures ∙ ap (λ (t : List Row). rowOf t (at .loop .code)) (inv .other-table))
 
 returns : tie.Need-returns Inv-loop μ-loop
 returns c =
@@ -72,12 +65,9 @@ put-in-force-spec =
     μ-loop
     sized-requires
     loop-holds
-    add-l
-    mul-l
-    element-copy-out-l
-    add-t11
-    mul-t12
-    element-set-from-l
+    surface-at-requires
+    add-put-surface
+    put-surface-requires
     add-code
     loop-less
     loop-again

@@ -1,15 +1,16 @@
 -- Each turn puts one row of the table.
-use borrow.Author.Needs.{needs}
 use mathlib.Core.Path.{_≡_, sym, ap₂, _∙_}
 use mathlib.Core.List.{List, map}
-use Prim.Native.Nat.{_-_, _<_}
+use Prim.Native.Nat.{_-_}
 use native.Mathlib.Omega.{arith}
+use borrow.Author.Needs.{needs}
 use lib.ListN.{length, length-map}
 use Rattle.lane.specs.declared.Row.{Row}
 use Rattle.lane.specs.Surface.{rowOf}
 use Rattle.lane.specs.Layout.{surfaceIn}
 use Rattle.lane.proofs.checks.Records.{code-by-code}
 use Rattle.lane.proofs.checks.Tables.{row-read, Put, put-start, put-next, put-all}
+use borrow.Author.Needs.{needs}
 use Rattle.lane.proofs.layout.put_next.Statement.{statement}
 use Rattle.lane.proofs.layout.put_next.Tie as tie
 
@@ -25,29 +26,17 @@ sized-requires c κs = search needs
 loop-holds : tie.Need-loop-holds Inv-loop μ-loop
 loop-holds c = put-start 9 1 _ _ (c .sized .ensures .0)
 
-mul-row : tie.Need-mul-row Inv-loop μ-loop
-mul-row c = search needs
+mul-surface : tie.Need-mul-surface Inv-loop μ-loop
+mul-surface c = search needs
 
-array-copy-out-row : tie.Need-array-copy-out-row Inv-loop μ-loop
-array-copy-out-row c = search needs
+array-copy-out-surface : tie.Need-array-copy-out-surface Inv-loop μ-loop
+array-copy-out-surface c = search needs
 
-array-read-t15 : tie.Need-array-read-t15 Inv-loop μ-loop
-array-read-t15 c = search needs
+add-put-surface : tie.Need-add-put-surface Inv-loop μ-loop
+add-put-surface c = search needs
 
-array-read-t18 : tie.Need-array-read-t18 Inv-loop μ-loop
-array-read-t18 c = search needs
-
-array-read-t21 : tie.Need-array-read-t21 Inv-loop μ-loop
-array-read-t21 c = search needs
-
-add-t9 : tie.Need-add-t9 Inv-loop μ-loop
-add-t9 c = search needs
-
-mul-t23 : tie.Need-mul-t23 Inv-loop μ-loop
-mul-t23 c = search needs
-
-element-set-from-l : tie.Need-element-set-from-l Inv-loop μ-loop
-element-set-from-l c = search needs
+put-surface-requires : tie.Need-put-surface-requires Inv-loop μ-loop
+put-surface-requires c κs = search needs
 
 add-code : tie.Need-add-code Inv-loop μ-loop
 add-code c = search needs
@@ -57,10 +46,11 @@ loop-less c = search needs
 
 loop-again : tie.Need-loop-again Inv-loop μ-loop
 loop-again c =
-    let at = c .before .before in
+    let at = c .before .before .before .before in
     let table = at .before .before .before .args .t2 in
-    let h : at .loop .code < 8 = omega arith in
-    put-next (at .loop .inv) h (omega arith) (omega arith) (λ k below e. omega arith) _ (sym (row-read table (at .loop .code)))
+    let put = c .put-surface .ensures in
+    put-next (at .loop .inv) (omega arith) (omega arith) (omega arith) (λ k below e. omega arith) _ (put .0) (put .1 .0)
+    (put .1 .1 ∙ sym (row-read table (at .loop .code)))
 
 returns : tie.Need-returns Inv-loop μ-loop
 returns c =
@@ -79,14 +69,10 @@ put-next-spec =
     μ-loop
     sized-requires
     loop-holds
-    mul-row
-    array-copy-out-row
-    array-read-t15
-    array-read-t18
-    array-read-t21
-    add-t9
-    mul-t23
-    element-set-from-l
+    mul-surface
+    array-copy-out-surface
+    add-put-surface
+    put-surface-requires
     add-code
     loop-less
     loop-again
