@@ -13,7 +13,7 @@ use Rattle.lane.specs.Call.{Call, start-call, load-call, enter-call, leave-call
 use Rattle.lane.proofs.CallLaws.{refused-changes-nothing, answer-number, Outcome, kept as leaves-kept, never-started, accepted-leaves, kept-started, kept-in-order, start-accepted, load-accepted, enter-accepted, leave-accepted, read-accepted, text-accepted}
 use Rattle.lane.proofs.CycleLaws.{cycle-accepted, cycle-runs}
 use Rattle.history.specs.Book.{Book, begun, holding, taken, booked}
-use Rattle.history.specs.Claims.{InOrder, Kind, begins, runs, other, kindOf, CycleClaims}
+use Rattle.history.specs.Claims.{InOrder, Kind, begins, loads, runs, other, kindOf, CycleClaims}
 use Rattle.history.specs.History.{Wished}
 use Rattle.history.proofs.Books.{put-in, take-out}
 use Rattle.history.proofs.CycleRuns.{bookOf, run-carriers, run-never-touching, run-replaces-crossing}
@@ -76,6 +76,7 @@ accepted-books (text-call buffer) s counted w z = (ap bookOf (text-accepted s bu
 -- of a refused call nothing is claimed
 nothing-claimed : {x : Call} (k : Kind x) (word : ℕ) (b : Book) → CycleClaims k true word b
 nothing-claimed (begins road first) word b = tt
+nothing-claimed (loads text) word b = tt
 nothing-claimed (runs count wishes) word b = tt
 nothing-claimed (other x) word b = tt
 

@@ -24,7 +24,7 @@ use Rattle.lane.specs.Calls.{none}
 use Rattle.lane.specs.Call.{Call, start-call, cycle-call, read-call, Answer, callNo, Kept}
 use Rattle.lane.proofs.CallLaws.{answer-number, kept-not-21}
 use Rattle.history.specs.Book.{Seen, Book, begun, trimmedIn, drivenIn, booked}
-use Rattle.history.specs.Claims.{Kind, begins, runs, other, kindOf, carrierAt, placeAt, restsLevelOrCrossed, Claims}
+use Rattle.history.specs.Claims.{Kind, begins, loads, runs, other, kindOf, carrierAt, placeAt, restsLevelOrCrossed, Claims}
 use Rattle.history.specs.History.{Event, callsIn, seen, Ran, Typed, AllTyped, startsLane, Chain, chain-end, chain-next, Throughout, NeverBroken}
 use Rattle.history.proofs.Bits.{below-power}
 use Rattle.history.proofs.Books.{driven-at-least}
@@ -159,6 +159,7 @@ every-list-claimed l e xs sixty-four =
   where
     typed : {x : Call} (k : Kind x) → ((count : ℕ) (ws : List Wish) → x ≡ cycle-call count ws → length ws ≡ 64) → Typed k
     typed (begins road first) h = tt
+    typed (loads text) h = tt
     typed (runs count ws) h = h count ws refl
     typed (other x) h = tt
 

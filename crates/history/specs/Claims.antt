@@ -57,15 +57,16 @@ isReplaced word i = eqb (word / 2 ^ i % 2) 1
 abbrev pub ReplacedWhenCrossing : Book → (word : ℕ) → List Wish → Type 0
 ReplacedWhenCrossing b word ws = (i : ℕ) → isReplaced word i ≡ restsLevelOrCrossed b ws i
 
--- what kind a call is of: a start, a cycle, or another
+-- what kind a call is of: a start, a load, a cycle, or another
 pub data Kind : Call → Type 0 where
   begins : (road : Road) → (first : ℕ) → Kind (start-call road first)
+  loads : (text : List ℕ) → Kind (load-call text)
   runs : (count : ℕ) → (wishes : List Wish) → Kind (cycle-call count wishes)
   other : (x : Call) → Kind x
 
 abbrev pub kindOf : (x : Call) → Kind x
 kindOf (start-call road first) = begins road first
-kindOf (load-call text) = other (load-call text)
+kindOf (load-call text) = loads text
 kindOf (enter-call c) = other (enter-call c)
 kindOf (leave-call number) = other (leave-call number)
 kindOf (cycle-call count ws) = runs count ws
@@ -75,6 +76,7 @@ kindOf (text-call buffer) = other (text-call buffer)
 -- "A cycle run is one not refused." What is claimed of it, with the book as at its start
 abbrev pub CycleClaims : {x : Call} → Kind x → (refused : Bool) → (word : ℕ) → Book → Type 0
 CycleClaims (begins road first) refused word b = Unit {0}
+CycleClaims (loads text) refused word b = Unit {0}
 CycleClaims (runs count ws) true word b = Unit {0}
 CycleClaims (runs count ws) false word b = NeverTouching b word ws × ReplacedWhenCrossing b word ws
 CycleClaims (other x) refused word b = Unit {0}

@@ -21,7 +21,7 @@ use Rattle.lane.proofs.cycle.Reads as cycle-reads
 use Rattle.lane.proofs.read.Reads as read-reads
 use Rattle.lane.proofs.lane_text.Reads as text-reads
 use Rattle.history.specs.Book.{Seen, Book, booked}
-use Rattle.history.specs.Claims.{Kind, begins, runs, other, kindOf, Claims}
+use Rattle.history.specs.Claims.{Kind, begins, loads, runs, other, kindOf, Claims}
 
 -- a call, what it answered and the lane that it left
 pub record Event : Type 0 where
@@ -82,6 +82,7 @@ pub data Ran : Words → List Event → Words → Type 0 where
 -- the arguments that the functions' types hold: sixty-four wishes, and any numbers
 abbrev pub Typed : {x : Call} → Kind x → Type 0
 Typed (begins road first) = Unit {0}
+Typed (loads text) = Unit {0}
 Typed (runs count wishes) = length wishes ≡ 64
 Typed (other x) = Unit {0}
 
@@ -101,6 +102,7 @@ pub record HistoryOf (l : Words) (xs : List Call) : Type 0 where
 -- a cycle has as many wishes as it counts
 abbrev pub Wished : {x : Call} → Kind x → Type 0
 Wished (begins road first) = Unit {0}
+Wished (loads text) = Unit {0}
 Wished (runs count wishes) = count ≤ 64 → count ≤ length wishes
 Wished (other x) = Unit {0}
 
@@ -119,12 +121,34 @@ Throughout b (e ∷ es) = Claims (e .left) (seen e) b × Throughout (booked (see
 -- the call is a start
 abbrev pub isStart : {x : Call} → Kind x → Bool
 isStart (begins road first) = true
+isStart (loads text) = false
 isStart (runs count wishes) = false
 isStart (other x) = false
+
+-- the call is a load
+abbrev pub isLoad : {x : Call} → Kind x → Bool
+isLoad (begins road first) = false
+isLoad (loads text) = true
+isLoad (runs count wishes) = false
+isLoad (other x) = false
 
 -- an accepted start
 abbrev pub startsLane : Event → Bool
 startsLane e = isStart (kindOf (e .call)) && eqb (e .answer .number) 0
+
+-- an accepted load
+abbrev pub loadsRows : Event → Bool
+loadsRows e = isLoad (kindOf (e .call)) && eqb (e .answer .number) 0
+
+-- none of these
+abbrev pub NoneOf : (Event → Bool) → List Event → Type 0
+NoneOf f [] = Unit {0}
+NoneOf f (e ∷ es) = (f e ≡ false) × NoneOf f es
+
+-- the lane after a list
+abbrev pub laneAfter : Words → List Event → Words
+laneAfter l [] = l
+laneAfter l (e ∷ es) = laneAfter (e .left) es
 
 -- "21 never started, or the lane handed in breaks a rule of this paper": once a start was accepted, no call gives it
 abbrev pub NeverBroken : (started : Bool) → List Event → Type 0
