@@ -1,8 +1,7 @@
 //! What is compared by cost must do the same.
 
 use crate::call::Call;
-use crate::sample::{carrier, road, Sample};
-use crate::surface::{figures, rows};
+use crate::sample::{carrier, road, rows, Sample};
 use crate::{library, reference};
 use lane_reference::Refusal;
 
@@ -71,9 +70,9 @@ fn lanes_agree(call: Call, sample: &Sample) {
     let road = road(theirs.road);
     let expected = (theirs.started.into(), road, theirs.cycle, theirs.count);
     assert_eq!(head, expected, "{}", call.name());
-    for (row, expected) in rows(ours).iter().zip(figures(&theirs.tables)) {
-        assert_eq!(row[..expected.len()], expected, "{}", call.name());
-    }
+    let tables = (ours.rows, ours.next_rows);
+    let expected = [theirs.tables.in_force, theirs.tables.for_next_start].map(rows);
+    assert_eq!(tables, expected.into(), "{}", call.name());
     for (record, &expected) in ours.records.iter().zip(theirs.present()) {
         assert_eq!(record.carrier, carrier(expected), "{}", call.name());
     }

@@ -4,10 +4,6 @@ use crate::call::{consume, Call};
 use crate::sample::{carrier, Sample};
 use rondavitse::binding::*;
 
-extern "C" {
-    fn rondavitse_load(lane: *mut Lane, text: *const u8, text_length: usize) -> u32;
-}
-
 /// The functions of a call by their symbols.
 pub const SYMBOLS: [&str; 7] = [
     "rondavitse_start",

@@ -9,7 +9,6 @@ mod library;
 mod reference;
 mod sample;
 mod stack;
-mod surface;
 mod table;
 mod throughput;
 mod timing;
