@@ -1,15 +1,15 @@
 /* Rondavitse: a supervisor for a lane of self-driving container carriers.
  *
- * A lane is a struct of the host's own: each call is lent it and changes it in place. A host begins with rondavitse_empty; a lane of zeros
- * is not empty, since its rows are unsound. `no` is 0 where a call is accepted; else it is the number of its refusal, every value beside it
- * is zero (but for a step's `next` and `stop`), and every word of the lane and every lent byte is as before. Positions count 1/2048 m,
- * speeds 1/128 m/s, accelerations 1/16 m/s²; a cycle is 1/8 s.
+ * A lane is a struct of the host's own: each call is lent it and changes it in place. A host begins with rondavitse_empty: a lane of zeros
+ * has unsound rows, and a start there gives 21 until a table is loaded. `no` is 0 where a call is accepted; else it is the number of its
+ * refusal, every value beside it is zero (but for a step's `next` and `stop`), and every word of the lane and every lent byte is as before.
+ * Positions count 1/2048 m, speeds 1/128 m/s, accelerations 1/16 m/s²; a cycle is 1/8 s.
  *
  * Any words may stand in the lane and any numbers may be given: those of a call are 64 bits wide and refused past their ranges, never cut.
  * The host sees to the pointers:
  * - `lane` points to a whole lane, aligned as the struct is, that nobody else uses during the call; others may read one that is const;
  * - any other pointer is to as many elements as the length beside it says, and never null;
- * - a buffer to write to overlaps neither the lane nor what else is lent in the call.
+ * - nothing that is lent overlaps a lane that is not const, nor a buffer to write to.
  * What is promised of a lane over many calls holds if each call gets it as the one before has left it.
  *
  * The library, libhost.a, is for x86-64 Linux and its C calling convention (System V), and position independent. It needs memcpy and memset

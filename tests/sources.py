@@ -304,8 +304,8 @@ def absolute(path, module, without=frozenset()):
 # The first error of a check, with what it says, or the first fact that is left open in a function.
 ERROR = re.compile(r"^(?:(\S+): error: (.*)|note: (\S+): it is not proved that .*)$", re.M)
 
-# An error that shows no fact to fail: what an edit did away with is missing.
-SHAPE = re.compile(r"has no `[^`]*` that can be named|has no field|is not in scope")
+# An error that shows no fact to fail: what an edit did away with is missing, or its own words are no antt.
+SHAPE = re.compile(r"has no `[^`]*` that can be named|has no field|is not in scope|cannot continue the declaration")
 
 
 def refusal_log(crate, label):

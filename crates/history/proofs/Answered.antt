@@ -57,8 +57,8 @@ pub lends : {l : Words} {Says : Lfts 1 → RefT Words → Type 0} → Says ([], 
 lends {l} s = of-lane ([], tt) (lent l) s
 
 -- the same of a lane and bytes
-pub of-both : (κs : Lfts 2) (l : RefT Words) (out : RefT (List ℕ)) {Says : Lfts 2 → RefT Words → RefT (List ℕ) → Type 0} → Says κs l out → OfBoth (now l) (now out) Says
-of-both κs l out s = record { κs = κs; lane = l; out = out; before = refl; lent = refl; says = s }
+pub of-both : (κs : Lfts 2) (l : RefT Words) (bytes : RefT (List ℕ)) {Says : Lfts 2 → RefT Words → RefT (List ℕ) → Type 0} → Says κs l bytes → OfBoth (now l) (now bytes) Says
+of-both κs l bytes s = record { κs = κs; lane = l; beside = bytes; before = refl; lent = refl; says = s }
 
 pub lends-both : {l : Words} {bytes : List ℕ} {Says : Lfts 2 → RefT Words → RefT (List ℕ) → Type 0} → Says ([], ([], tt)) (lent l) (lent bytes) → OfBoth l bytes Says
 lends-both {l} {bytes} s = of-both ([], ([], tt)) (lent l) (lent bytes) s

@@ -48,6 +48,7 @@ one-call e l b g w h =
       agree,
       record {
         carriers = ap (λ (c : Book). c .carriers) (agree .same);
+        road = ap (λ (c : Book). c .road) (agree .same);
         tables = ap (λ (c : Book). c .tables) (agree .same);
         order = in-order _ _ agree;
         cycle-run = rw (g .answer) (s .claims);

@@ -1,33 +1,31 @@
 -- The surface rows along a history, in plain words: what a load brings serves from the next start on.
-use mathlib.Core.Path.{_≡_, refl, sym, ap, _∙_}
+use mathlib.Core.Path.{_≡_, refl, sym, ap, _∙_, subst}
 use mathlib.Core.Bool.{Bool, true, false, _&&_, true≢false}
 use mathlib.Core.List.{List, [], _∷_, _++_}
 use Prim.Native.Nat.{ℕ}
 use borrow.Author.Tests.{eqb-true, eqb-false}
 use lib.Dec.{eqb}
-use Rattle.lane.specs.declared.Road.{Road}
-use Rattle.lane.specs.Surface.{Tables}
+use Rattle.lane.specs.Surface.{houseRows, Tables}
 use Rattle.lane.specs.State.{State}
-use Rattle.lane.specs.Layout.{Words, stateOf}
+use Rattle.lane.specs.Layout.{Words, stateOf, emptyWords}
 use Rattle.lane.specs.Table.{tableIn, rowsLoaded}
 use Rattle.lane.specs.Call.{Call, start-call, load-call, enter-call, leave-call, cycle-call, read-call, text-call, Answer, callNo, callState, Gives}
-use Rattle.lane.proofs.CallLaws.{refused-changes-nothing, answer-number, start-accepted, load-accepted, enter-accepted, leave-accepted, read-accepted, text-accepted}
+use Rattle.lane.proofs.CallLaws.{refused-changes-nothing, answer-number, empty-state, start-accepted, load-accepted, enter-accepted, leave-accepted, read-accepted, text-accepted}
 use Rattle.lane.proofs.CycleLaws.{cycle-accepted}
 use Rattle.history.specs.Claims.{Kind, begins, loads, runs, other, kindOf}
-use Rattle.history.specs.History.{Event, laneAfter, Ran, Chain, chain-end, chain-next, isStart, isLoad, startsLane, loadsRows, NoneOf}
+use Rattle.history.specs.History.{Event, laneAfter, Ran, Chain, chain-end, chain-next, isStart, isLoad, startsLane, loadsRows, NoneOf, LoadedRowsServe}
 use Rattle.history.proofs.History.{ran-gives}
 
 -- ---- one call
 
 -- the tables after an accepted call of a kind
-tablesAfter : {x : Call} → Kind x → Tables → Tables
+abbrev tablesAfter : {x : Call} → Kind x → Tables → Tables
 tablesAfter (begins road first) t = record { inForce = t .next; next = t .next }
 tablesAfter (loads text) t = record { inForce = t .inForce; next = rowsLoaded (tableIn text) }
 tablesAfter (runs count wishes) t = t
 tablesAfter (other x) t = t
 
 accepted-tables : (x : Call) (s : State) → callNo x s ≡ 0 → callState x s .tables ≡ tablesAfter (kindOf x) (s .tables)
-unfolding tablesAfter
 accepted-tables (start-call road first) s z = ap (λ (t : State). t .tables) (start-accepted s road first z)
 accepted-tables (load-call text) s z = ap (λ (t : State). t .tables) (load-accepted s text z)
 accepted-tables (enter-call c) s z = ap (λ (t : State). t .tables) (enter-accepted s c z)
@@ -36,27 +34,12 @@ accepted-tables (cycle-call count wishes) s z = ap (λ (t : State). t .tables) (
 accepted-tables (read-call number) s z = ap (λ (t : State). t .tables) (read-accepted s number)
 accepted-tables (text-call buffer) s z = ap (λ (t : State). t .tables) (text-accepted s buffer)
 
--- those for the next start stay but for a load, those in force but for a start
-next-stays : (x : Call) (k : Kind x) (t : Tables) → isLoad k ≡ false → tablesAfter k t .next ≡ t .next
-unfolding tablesAfter
-next-stays x (begins road first) t e = refl
-next-stays x (loads text) t e = absurd (true≢false e)
-next-stays x (runs count wishes) t e = refl
-next-stays x (other y) t e = refl
-
-in-force-stays : (x : Call) (k : Kind x) (t : Tables) → isStart k ≡ false → tablesAfter k t .inForce ≡ t .inForce
-unfolding tablesAfter
-in-force-stays x (begins road first) t e = absurd (true≢false e)
-in-force-stays x (loads text) t e = refl
-in-force-stays x (runs count wishes) t e = refl
-in-force-stays x (other y) t e = refl
-
--- what a call of a history that gives so much leaves: of one that is refused, and of a kind that does not touch them, the same
-module _ {A : Type 0} (of : Tables → A) (touches : (x : Call) → Kind x → Bool)
-    (stays : (x : Call) (k : Kind x) (t : Tables) → touches x k ≡ false → of (tablesAfter k t) ≡ of t) where
-  event-stays : (e : Event) (l : Words) → Gives (e .call) l (e .answer) (e .left) → touches (e .call) (kindOf (e .call)) && eqb (e .answer .number) 0 ≡ false
-      → of (stateOf (e .left) .tables) ≡ of (stateOf l .tables)
-  event-stays e l g h = by-test (eqb (callNo x s) 0) refl
+-- what holds of the tables and is kept by every kind of call but some holds after a list with no accepted call of those
+module _ (P : Tables → Type 0) (touches : (x : Call) → Kind x → Bool)
+    (keeps : (x : Call) (k : Kind x) (t : Tables) → touches x k ≡ false → P t → P (tablesAfter k t)) where
+  event-keeps : (e : Event) (l : Words) → Gives (e .call) l (e .answer) (e .left) → touches (e .call) (kindOf (e .call)) && eqb (e .answer .number) 0 ≡ false
+      → P (stateOf l .tables) → P (stateOf (e .left) .tables)
+  event-keeps e l g h p = by-test (eqb (callNo x s) 0) refl
     where
       x : Call
       x = e .call
@@ -71,27 +54,57 @@ module _ {A : Type 0} (of : Tables → A) (touches : (x : Call) → Kind x → B
       untouched true u p q = absurd (true≢false (sym p ∙ q))
       untouched false u p q = refl
 
-      by-test : (t : Bool) → eqb (callNo x s) 0 ≡ t → of (stateOf (e .left) .tables) ≡ of (s .tables)
-      by-test true p =
-          let z = eqb-true (callNo x s) 0 p in
-          ap (λ (t : State). of (t .tables)) (g .state) ∙ ap of (accepted-tables x s z)
-          ∙ stays x (kindOf x) (s .tables) (untouched (touches x (kindOf x)) (eqb (e .answer .number) 0) (ap (λ (n : ℕ). eqb n 0) number ∙ p) h)
-      by-test false p =
-          ap (λ (t : State). of (t .tables)) (g .state ∙ refused-changes-nothing x s (eqb-false (callNo x s) 0 p))
+      by-test : (t : Bool) → eqb (callNo x s) 0 ≡ t → P (stateOf (e .left) .tables)
+      by-test true f =
+          subst P (sym (ap (λ (t : State). t .tables) (g .state) ∙ accepted-tables x s (eqb-true (callNo x s) 0 f)))
+          (keeps x (kindOf x) (s .tables) (untouched (touches x (kindOf x)) (eqb (e .answer .number) 0) (ap (λ (n : ℕ). eqb n 0) number ∙ f) h) p)
+      by-test false f = subst (λ (t : State). P (t .tables)) (sym (g .state ∙ refused-changes-nothing x s (eqb-false (callNo x s) 0 f))) p
 
   along : {l d : Words} {es : List Event} → Chain l es d → NoneOf (λ e. touches (e .call) (kindOf (e .call)) && eqb (e .answer .number) 0) es
-      → of (stateOf d .tables) ≡ of (stateOf l .tables)
-  along chain-end n = refl
-  along {l} (chain-next {e = e} g w r) n = along r (n .1) ∙ event-stays e l g (n .0)
+      → P (stateOf l .tables) → P (stateOf d .tables)
+  along chain-end n p = p
+  along {l} (chain-next {e = e} g w r) n p = along r (n .1) (event-keeps e l g (n .0) p)
 
 -- ---- lists
 
--- without a load the rows for the next start stay, without a start those in force
+-- without a load the rows for the next start stay
+chain-next-rows : {l d : Words} {es : List Event} → Chain l es d → NoneOf loadsRows es → stateOf d .tables .next ≡ stateOf l .tables .next
+chain-next-rows {l} c n = along (λ t. t .next ≡ stateOf l .tables .next) (λ x k. isLoad k) kept c n refl
+  where
+    kept : (x : Call) (k : Kind x) (t : Tables) → isLoad k ≡ false → t .next ≡ stateOf l .tables .next → tablesAfter k t .next ≡ stateOf l .tables .next
+    kept x (begins road first) t e p = p
+    kept x (loads text) t e p = absurd (true≢false e)
+    kept x (runs count wishes) t e p = p
+    kept x (other y) t e p = p
+
 pub next-rows-stay : (l : Words) (es : List Event) (d : Words) → Ran l es d → NoneOf loadsRows es → stateOf d .tables .next ≡ stateOf l .tables .next
-next-rows-stay l es d r n = along (λ t. t .next) (λ x k. isLoad k) next-stays (ran-gives r) n
+next-rows-stay l es d r n = chain-next-rows (ran-gives r) n
+
+-- without a start those in force
+chain-rows-in-force : {l d : Words} {es : List Event} → Chain l es d → NoneOf startsLane es → stateOf d .tables .inForce ≡ stateOf l .tables .inForce
+chain-rows-in-force {l} c n = along (λ t. t .inForce ≡ stateOf l .tables .inForce) (λ x k. isStart k) kept c n refl
+  where
+    kept : (x : Call) (k : Kind x) (t : Tables) → isStart k ≡ false → t .inForce ≡ stateOf l .tables .inForce → tablesAfter k t .inForce ≡ stateOf l .tables .inForce
+    kept x (begins road first) t e p = absurd (true≢false e)
+    kept x (loads text) t e p = p
+    kept x (runs count wishes) t e p = p
+    kept x (other y) t e p = p
 
 pub rows-in-force-stay : (l : Words) (es : List Event) (d : Words) → Ran l es d → NoneOf startsLane es → stateOf d .tables .inForce ≡ stateOf l .tables .inForce
-rows-in-force-stay l es d r n = along (λ t. t .inForce) (λ x k. isStart k) in-force-stays (ran-gives r) n
+rows-in-force-stay l es d r n = chain-rows-in-force (ran-gives r) n
+
+-- T-01: "the house rows serve until a table is loaded"
+pub house-rows-serve : (es : List Event) (d : Words) → Ran emptyWords es d → NoneOf loadsRows es
+    → stateOf d .tables ≡ record { inForce = houseRows; next = houseRows }
+house-rows-serve es d r n =
+    along (λ t. t ≡ record { inForce = houseRows; next = houseRows }) (λ x k. isLoad k) kept (ran-gives r) n (ap (λ (s : State). s .tables) empty-state)
+  where
+    kept : (x : Call) (k : Kind x) (t : Tables) → isLoad k ≡ false → t ≡ record { inForce = houseRows; next = houseRows }
+        → tablesAfter k t ≡ record { inForce = houseRows; next = houseRows }
+    kept x (begins road first) t e p = ap (λ (u : Tables). record { inForce = u .next; next = u .next }) p
+    kept x (loads text) t e p = absurd (true≢false e)
+    kept x (runs count wishes) t e p = p
+    kept x (other y) t e p = p
 
 -- a list in two parts
 parts : (es : List Event) {rest : List Event} {l d : Words} → Chain l (es ++ rest) d → Chain l es (laneAfter l es) × Chain (laneAfter l es) rest d
@@ -107,18 +120,16 @@ accepted-first {e} {l = l} (chain-next g w r) x is accepted =
     in
     (ap (λ (s : State). s .tables) (g .state ∙ ap (λ (y : Call). callState y (stateOf l)) is) ∙ accepted-tables x (stateOf l) number, r)
 
--- T-01: "From the next start on, the codes mean the loaded rows": a load accepted, a list with no other, a start accepted, and any list with no other
--- start; then the rows in force are those of the load's text
-pub loaded-rows-serve : (l d : Words) (before : List Event) (e : Event) (between : List Event) (f : Event) (serving later : List Event)
-    → Ran l (before ++ (e ∷ (between ++ (f ∷ (serving ++ later))))) d → (text : List ℕ) → e .call ≡ load-call text → e .answer .number ≡ 0
-    → NoneOf loadsRows between → (road : Road) (first : ℕ) → f .call ≡ start-call road first → f .answer .number ≡ 0 → NoneOf startsLane serving
-    → stateOf (laneAfter (f .left) serving) .tables .inForce ≡ rowsLoaded (tableIn text)
-unfolding tablesAfter
-loaded-rows-serve l d before e between f serving later r text is-load loaded no-load road first is-start started no-start =
-    let load = accepted-first (parts before (ran-gives r) .1) (load-call text) is-load loaded in
-    let between-parts = parts between (load .1) in
-    let start = accepted-first (between-parts .1) (start-call road first) is-start started in
-    along (λ t. t .inForce) (λ x k. isStart k) in-force-stays (parts serving (start .1) .0) no-start
-    ∙ ap (λ (t : Tables). t .inForce) (start .0)
-    ∙ along (λ t. t .next) (λ x k. isLoad k) next-stays (between-parts .0) no-load
-    ∙ ap (λ (t : Tables). t .next) (load .0)
+-- what a load brings serves from the next start on
+pub chain-loaded-rows-serve : {l d : Words} {es : List Event} → Chain l es d → LoadedRowsServe es
+chain-loaded-rows-serve {l} {d} c before load between start serving later text road first is is-load loaded no-load is-start started no-start =
+    let loads-first = accepted-first (parts before (subst (λ (es : List Event). Chain l es d) is c) .1) (load-call text) is-load loaded in
+    let to-start = parts between (loads-first .1) in
+    let starts-first = accepted-first (to-start .1) (start-call road first) is-start started in
+    chain-rows-in-force (parts serving (starts-first .1) .0) no-start
+    ∙ ap (λ (t : Tables). t .inForce) (starts-first .0)
+    ∙ chain-next-rows (to-start .0) no-load
+    ∙ ap (λ (t : Tables). t .next) (loads-first .0)
+
+pub loaded-rows-serve : (l : Words) (es : List Event) (d : Words) → Ran l es d → LoadedRowsServe es
+loaded-rows-serve l es d r = chain-loaded-rows-serve (ran-gives r)

@@ -85,7 +85,8 @@ CycleClaims (other x) refused word b = Unit {0}
 pub record Claims (after : Words) (s : Seen) (b : Book) : Type 0 where
   -- "the lane's carriers are those of 01's road book after each call"
   pub carriers : stateOf after .carriers ≡ booked s b .carriers
-  -- and so are its rows, which document 02, T-01, adds to the book
+  -- and so is what else the book holds: surface, end and limit, and by document 02, T-01, the surface rows
+  pub road : stateOf after .road ≡ booked s b .road
   pub tables : stateOf after .tables ≡ booked s b .tables
   pub order : InOrder (booked s b)
   pub cycle-run : CycleClaims (kindOf (s .call)) (s .refused) (s .word) b

@@ -2,7 +2,7 @@
 use Prim.Native.Nat.{ℕ, _≤_}
 use mathlib.Core.Path.{_≡_}
 use mathlib.Core.Bool.{Bool, true, false, not, _&&_, _||_}
-use mathlib.Core.List.{List, [], _∷_, map}
+use mathlib.Core.List.{List, [], _∷_, _++_, map}
 use contract.Lifetimes.{Lfts}
 use denote.Ref.{RefT, now, at-last}
 use lib.Dec.{eqb}
@@ -11,7 +11,9 @@ use Rattle.lane.specs.declared.Cycled.{Cycled}
 use Rattle.lane.specs.declared.Entered.{Entered}
 use Rattle.lane.specs.declared.Listed.{Listed}
 use Rattle.lane.specs.declared.ReadOut.{ReadOut}
-use Rattle.lane.specs.Layout.{Words}
+use Rattle.lane.specs.declared.Road.{Road}
+use Rattle.lane.specs.Layout.{Words, stateOf}
+use Rattle.lane.specs.Table.{tableIn, rowsLoaded}
 use Rattle.lane.specs.Call.{Call, start-call, load-call, enter-call, leave-call, cycle-call, read-call, text-call, Answer, bare, entered, cycled, readOut, listed, Gives}
 use Rattle.lane.proofs.start.Reads as start-reads
 use Rattle.lane.proofs.load.Reads as load-reads
@@ -46,14 +48,14 @@ pub record OfLane (l : Words) (Says : Lfts 1 → RefT Words → Type 0) : Type 0
   pub before : now lane ≡ l
   pub says : Says κs lane
 
--- one to a lane and one to bytes, a buffer or a text
+-- one to a lane and one to the bytes of a buffer or a text
 pub record OfBoth (l : Words) (bytes : List ℕ) (Says : Lfts 2 → RefT Words → RefT (List ℕ) → Type 0) : Type 0 where
   pub κs : Lfts 2
   pub lane : RefT Words
-  pub out : RefT (List ℕ)
+  pub beside : RefT (List ℕ)
   pub before : now lane ≡ l
-  pub lent : now out ≡ bytes
-  pub says : Says κs lane out
+  pub lent : now beside ≡ bytes
+  pub says : Says κs lane beside
 
 -- what the contract of the function called says of its arguments, its answer and the lane that it left; the wishes are an array of 64
 abbrev pub Did : Call → Words → Answer → Words → Type 0
@@ -149,6 +151,16 @@ NoneOf f (e ∷ es) = (f e ≡ false) × NoneOf f es
 abbrev pub laneAfter : Words → List Event → Words
 laneAfter l [] = l
 laneAfter l (e ∷ es) = laneAfter (e .left) es
+
+-- document 02, T-01: "From the next start on, the codes mean the loaded rows": after an accepted load, a list with no other, an accepted start
+-- and a list with no other, the rows in force are those of the load's text
+abbrev pub LoadedRowsServe : List Event → Type 0
+LoadedRowsServe es =
+    (before : List Event) (load : Event) (between : List Event) (start : Event) (serving later : List Event) (text : List ℕ) (road : Road) (first : ℕ)
+    → es ≡ before ++ (load ∷ (between ++ (start ∷ (serving ++ later))))
+    → load .call ≡ load-call text → load .answer .number ≡ 0 → NoneOf loadsRows between
+    → start .call ≡ start-call road first → start .answer .number ≡ 0 → NoneOf startsLane serving
+    → stateOf (laneAfter (start .left) serving) .tables .inForce ≡ rowsLoaded (tableIn text)
 
 -- "21 never started, or the lane handed in breaks a rule of this paper": once a start was accepted, no call gives it
 abbrev pub NeverBroken : (started : Bool) → List Event → Type 0

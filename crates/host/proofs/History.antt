@@ -12,9 +12,10 @@ use Rattle.lane.specs.Call.{Call, load-call, cycle-call, text-call, Answer, cyc
 use Rattle.lane.specs.Given.{wishesNo, wishesGiven, GivesWith}
 use Rattle.lane.proofs.Laws.{wishes-enough}
 use Rattle.history.specs.Book.{begun}
-use Rattle.history.specs.History.{Event, callsIn, Chain, chain-end, chain-next, Throughout, NeverBroken}
+use Rattle.history.specs.History.{Event, callsIn, Chain, chain-end, chain-next, Throughout, LoadedRowsServe, NeverBroken}
 use Rattle.history.proofs.History.{given-of, read-of, chain-history}
 use Rattle.history.proofs.Consequences.{chain-never-broken}
+use Rattle.history.proofs.Rows.{chain-loaded-rows-serve}
 use Rattle.console.specs.Blocks.{Parsed, parsed, malformed}
 use Rattle.console.specs.History.{blockRun, eventsOf, callsWith}
 use Rattle.console.proofs.Calls.{step-chain}
@@ -67,6 +68,10 @@ host-history l e xs es d r = chain-history l e es d (is-chain r)
 -- and from the lane that `rondavitse_empty` gives
 pub host-history-from-empty : (l : Words) → Emptied l → (xs : List HostCall) (es : List Event) (d : Words) → HostRan l xs es d → Throughout (begun emptyWords) es
 host-history-from-empty l e xs es d r = subst (λ (k : Words). Throughout (begun k) es) (e .says) (host-history l (rw (e .says) refl) xs es d r)
+
+-- rows that `rondavitse_load` brought are in force from the next accepted start to the one after it
+pub host-loaded-rows-serve : (l : Words) (xs : List HostCall) (es : List Event) (d : Words) → HostRan l xs es d → LoadedRowsServe es
+host-loaded-rows-serve l xs es d r = chain-loaded-rows-serve (is-chain r)
 
 -- the calls of the lane are those that the exported calls are, refused or not
 pub host-calls : {l d : Words} {xs : List HostCall} {es : List Event} → HostRan l xs es d → callsIn es ≡ allMade xs

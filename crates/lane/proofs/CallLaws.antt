@@ -1,14 +1,16 @@
 -- What a call does, for the crates above, which leave the calls' definitions shut: laws of every call, and what an accepted one does.
-use mathlib.Core.Path.{_≡_, refl, sym, _∙_, subst}
+use mathlib.Core.Path.{_≡_, refl, sym, ap, _∙_, subst}
 use mathlib.Core.Bool.{Bool, true, false, not, _&&_, cond, true≢false, and-eq-true-iff}
 use mathlib.Core.List.{List, [], _∷_}
 use Prim.Native.Nat.{ℕ, suc, _<_}
-use borrow.Author.Tests.{ltb-true}
+use native.Mathlib.Omega.{arith}
+use borrow.Author.Tests.{ltb-true, ltb-false}
 use lib.Dec.{eqb, leb, ltb}
 use lib.ListN.{length, getD, take}
 use Rattle.wish.specs.declared.Wish.{Wish}
 use Rattle.lane.specs.declared.Carrier.{Carrier}
 use Rattle.lane.specs.declared.Road.{Road}
+use Rattle.lane.specs.declared.Row.{Row}
 use Rattle.lane.specs.Limits.{farthestEnd, fastest, lastCycle}
 use Rattle.lane.specs.Surface.{houseRows, rowOf, soundRow, unsoundBelow, unsound, rowIn}
 use Rattle.lane.specs.Layout.{tableFrom, stateOf, emptyWords}
@@ -21,7 +23,8 @@ use Rattle.lane.specs.Calls.{none, withCarriers, startNo, begunState, ah
 use Rattle.lane.specs.Listing.{laneText, textNo}
 use Rattle.lane.specs.Call.{Call, start-call, load-call, enter-call, leave-call, cycle-call, read-call, text-call, Meaning, meaning, callNo, acceptedState, callState, Kept}
 use Rattle.lane.proofs.lists.Passed.{both}
-use Rattle.lane.proofs.calls.Answers.{accepted-changes, accepted-sound}
+use Rattle.lane.proofs.calls.Answers.{accepted-changes, accepted-sound, load-tells}
+use Rattle.lane.proofs.checks.Records.{code-by-code}
 use Rattle.lane.proofs.checks.Soundness.{Sound, sound, sound-holds}
 use Rattle.lane.proofs.calls.Order.{lane-order}
 use Rattle.lane.proofs.calls.Keeps.{start-keeps, load-keeps, enter-keeps, leave-keeps, cycle-keeps}
@@ -168,7 +171,11 @@ start-accepted s road first e = accepted-changes (start-call road first) s e
 pub start-leaves : (s : State) (road : Road) (first : ℕ) → startNo s road ≡ 0 → Kept (callState (start-call road first) s)
 start-leaves s road first e = subst Kept (sym (start-accepted s road first e)) (start-keeps s road first e)
 
--- the empty lane has the house rows in force and for the next start
+eight-house : length houseRows ≡ 8
+unfolding houseRows
+eight-house = refl
+
+-- the empty lane has the house rows in force and for the next start, whatever their figures
 pub empty-state : stateOf emptyWords
     ≡ record {
       started = false;
@@ -178,10 +185,12 @@ pub empty-state : stateOf emptyWords
       count = 0;
       carriers = [];
     }
-unfolding houseRows tableFrom
-empty-state = refl
+unfolding tableFrom
+empty-state =
+    ap (λ (rs : List Row). record { started = false; road = record { surface = 0; end = 0; limit = 0 }; tables = record { inForce = rs; next = rs }; cycle = 0; count = 0; carriers = [] })
+    (code-by-code houseRows eight-house)
 
--- and they are sound, which is computed here alone: what is asked of a start there is its road
+-- and they are sound, which is computed here: what is asked of a start there is its road
 pub empty-starts : (road : Road) (first : ℕ) → callNo (start-call road first) (stateOf emptyWords) ≡ roadNo road
 unfolding startNo houseRows rowOf soundRow unsoundBelow unsound tableFrom
 empty-starts road first = refl
@@ -191,11 +200,18 @@ pub idle-loads : (s : State) (text : List ℕ) → s .started ≡ false → call
 unfolding loadNo
 idle-loads s text e = rw e refl
 
+-- of a started lane that it holds no carriers
+pub load-finds-nobody : (s : State) (text : List ℕ) → s .started ≡ true → callNo (load-call text) s ≡ 0 → s .count ≡ 0
+load-finds-nobody s text e z = let none = ltb-false 0 (s .count) (of-started (load-tells s text z .empty)) in omega (arith, none)
+  where
+    of-started : {t : Bool} → s .started && t ≡ false → t ≡ false
+    of-started {t} f = rw e at f
+
 -- a started lane with an unsound row for the next start can neither load nor start
-pub unsound-next-stays : (s : State) → s .started ≡ true → unsound (s .tables .next) ≡ true → (text : List ℕ) (road : Road) (first : ℕ)
+pub unsound-next-stuck : (s : State) → s .started ≡ true → unsound (s .tables .next) ≡ true → (text : List ℕ) (road : Road) (first : ℕ)
     → (callNo (load-call text) s ≡ 21) × (callNo (start-call road first) s ≡ 21)
 unfolding loadNo startNo
-unsound-next-stays s e f text road first = (rw (next-broken s f, e) refl, rw f refl)
+unsound-next-stuck s e f text road first = (rw (next-broken s f, e) refl, rw f refl)
 
 -- the rows of the text for the next start, and nothing else
 pub load-accepted : (s : State) (text : List ℕ) → loadNo s text ≡ 0

@@ -1,5 +1,5 @@
 -- One table has one text: the reader takes the text of eight sound rows for them, and whatever it takes is the text of what it takes it for.
-use mathlib.Core.Path.{_≡_, refl, ap, _∙_}
+use mathlib.Core.Path.{_≡_, refl, ap}
 use mathlib.Core.Bool.{false, cond}
 use mathlib.Core.List.{List, [], _∷_, _++_, append-assoc}
 use Prim.Native.Nat.{ℕ, zero, suc, _≤_, _<_}
@@ -15,7 +15,7 @@ use Rattle.text.specs.Fields.{lineLength, fieldIn, isNumber, valueIn}
 use Rattle.text.specs.declared.numbers.Number.{Number}
 use Rattle.text.specs.declared.numbers.Number.the-variants.{Is, Malformed}
 use Rattle.text.proofs.Laws.{decimal-at-most, length-line}
-use Rattle.text.proofs.ReadLaws.{field-read, field-whole, length-of-line, decimal-no-newline}
+use Rattle.text.proofs.ReadLaws.{number-is, number-value, no-number, no-bytes, no-newline, field-read, field-whole, length-of-line, decimal-no-newline}
 use Rattle.lane.specs.declared.Row.{Row}
 use Rattle.lane.specs.Surface.{row, rowOf, unsound}
 use Rattle.lane.specs.Table.{rowText, tableText, Rows, rows, malformed, before, numberMost, numberLine, rowLines, rowsIn, tableIn}
@@ -26,13 +26,16 @@ use Rattle.lane.proofs.checks.Surfaces.{SoundRow, sound-at}
 -- a line of a key, and what follows
 line-taken : (key t : List ℕ) (k : ℕ → List ℕ → Rows) (rs : List Row) → numberLine key t k ≡ rows rs
     → (n : ℕ) × (rest : List ℕ) × (t ≡ line key (decimal n) ++ rest) × (k n rest ≡ rows rs)
-unfolding numberLine isNumber valueIn
+unfolding numberLine
 line-taken key t k rs e = by-number (fieldIn key numberMost t) refl e
   where
     by-number : (m : Number) → fieldIn key numberMost t ≡ m → cond (isNumber m) (k (valueIn m) (drop (suc (lineLength t)) t)) malformed ≡ rows rs
         → (n : ℕ) × (rest : List ℕ) × (t ≡ line key (decimal n) ++ rest) × (k n rest ≡ rows rs)
-    by-number (Is n) f e = (n, drop (suc (lineLength t)) t, field-whole key numberMost t n f, e)
-    by-number Malformed f e = let z : _≡_ {A = ℕ} 0 1 = cc in absurd (omega arith)
+    by-number (Is n) f e = (n, drop (suc (lineLength t)) t, field-whole key numberMost t n f, rw (number-is n, number-value n) at e)
+    by-number Malformed f e =
+        let g = rw no-number at e in
+        let z : _≡_ {A = ℕ} 0 1 = cc g in
+        absurd (omega arith)
 
 -- a row before others
 row-taken : (r : Row) (x : Rows) (rs : List Row) → before (r ∷ []) x ≡ rows rs → (ss : List Row) × (x ≡ rows ss) × (rs ≡ r ∷ ss)
@@ -70,31 +73,35 @@ table-taken text rs e = rows-taken 8 text rs e
 
 -- ---- the text of rows
 
-line-read : (key rest : List ℕ) (n : ℕ) (k : ℕ → List ℕ → Rows) → lineLength key ≡ length key → length key ≤ 2 → n ≤ 255
+line-again : (key rest : List ℕ) (n : ℕ) (k : ℕ → List ℕ → Rows) → lineLength key ≡ length key → length key ≤ 2 → n ≤ 255
     → numberLine key (line key (decimal n) ++ rest) k ≡ k n rest
-unfolding numberLine isNumber valueIn
-line-read key rest n k whole short h =
+unfolding numberLine
+line-again key rest n k whole short h =
     let digits : length (decimal n) ≤ 3 = decimal-at-most 3 n (omega arith) (omega arith) in
     let ends : suc (lineLength (line key (decimal n) ++ rest)) ≡ length (line key (decimal n)) =
     omega (arith, length-of-line key (decimal n) rest whole (decimal-no-newline n), length-line key (decimal n))
     in
-    rw (field-read key rest numberMost n whole (omega arith) (omega arith), ends) (ap (k n) (drop-append-seam (line key (decimal n)) rest))
+    rw (field-read key rest numberMost n whole (omega arith) (omega arith), number-is n, number-value n, ends) (ap (k n) (drop-append-seam (line key (decimal n)) rest))
 
-rows-read : (rs : List Row) → ((i : ℕ) → i < length rs → SoundRow (rowOf rs i)) → rowsIn (length rs) (tableText rs) ≡ rows rs
-unfolding rowOf rowsIn rowLines rowText tableText lineLength
-rows-read [] h = refl
-rows-read (r ∷ rs) h =
+-- the keys have no newline
+key-whole : (k : ℕ) → ¬ (k ≡ 10) → lineLength (k ∷ 61 ∷ []) ≡ 2
+key-whole k h = no-newline k (61 ∷ []) h (no-newline 61 [] (λ e. omega arith) no-bytes)
+
+rows-again : (rs : List Row) → ((i : ℕ) → i < length rs → SoundRow (rowOf rs i)) → rowsIn (length rs) (tableText rs) ≡ rows rs
+unfolding rowOf rowsIn rowLines rowText tableText
+rows-again [] h = refl
+rows-again (r ∷ rs) h =
     let s = h 0 (omega arith) in
     rw (
       append-assoc,
       append-assoc,
-      line-read (ascii "b=") _ (r .guaranteed) _ refl (omega arith) (omega (arith, s .brakes-harder, s .hardest-most)),
-      line-read (ascii "B=") _ (r .hardest) _ refl (omega arith) (s .hardest-most),
-      line-read (ascii "A=") _ (r .most) _ refl (omega arith) (s .gains-most),
-      rows-read rs (λ i p. h (suc i) (omega arith)),
+      line-again (ascii "b=") _ (r .guaranteed) _ (key-whole 98 (λ e. omega arith)) (omega arith) (omega (arith, s .brakes-harder, s .hardest-most)),
+      line-again (ascii "B=") _ (r .hardest) _ (key-whole 66 (λ e. omega arith)) (omega arith) (s .hardest-most),
+      line-again (ascii "A=") _ (r .most) _ (key-whole 65 (λ e. omega arith)) (omega arith) (s .gains-most),
+      rows-again rs (λ i p. h (suc i) (omega arith)),
     )
     refl
 
 pub table-text : (rs : List Row) → length rs ≡ 8 → unsound rs ≡ false → tableIn (tableText rs) ≡ rows rs
 unfolding tableIn
-table-text rs eight e = rw eight at (rows-read rs (λ i p. sound-at rs i (omega arith) e))
+table-text rs eight e = rw eight at (rows-again rs (λ i p. sound-at rs i (omega arith) e))

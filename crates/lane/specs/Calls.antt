@@ -36,7 +36,7 @@ ifAccepted number x y = cond (eqb number 0) x y
 
 -- ---- start: "Start (surface, lane end, limit, first cycle number): 1, 2, 3."
 
--- document 02, T-01: "a start gives it [21] too, before 1, but only for a row of those that the start would put in force"
+-- document 02, T-01, of 21: "a start gives it too, before 1, but only for a row of those that the start would put in force"
 unfoldable pub startNo : State → Road → ℕ
 startNo s road = cond (unsound (s .tables .next)) 21 (roadNo road)
 

@@ -11,7 +11,6 @@ use Rattle.wish.specs.declared.Wish.{Wish}
 use Rattle.wish.specs.declared.Wish.the-variants.{Units, Acceleration, TargetSpeed, Hold}
 use Rattle.lane.specs.declared.given.Made.{Made}
 use Rattle.lane.specs.declared.given.Made.the-variants.{Of, Unknown}
-use Rattle.lane.specs.State.{State}
 use Rattle.lane.specs.Layout.{Words, stateOf}
 use Rattle.lane.specs.Calls.{ifAccepted, readyNo}
 use Rattle.lane.specs.Call.{cycle-call, Answer, bare, Gives}

@@ -9,7 +9,7 @@ use lib.ListN.{getD, take, drop, replicate}
 use Rattle.lane.specs.declared.Carrier.{Carrier}
 use Rattle.lane.specs.declared.Row.{Row}
 use Rattle.lane.specs.declared.layout.Figures.{Figures}
-use Rattle.lane.specs.Surface.{row, houseRows, Tables}
+use Rattle.lane.specs.Surface.{row, houseRows, rowOf, Tables}
 use Rattle.lane.specs.State.{State}
 
 abbrev pub Words : Type 0
@@ -73,6 +73,10 @@ stateOf l = stateWith (figuresIn l) (tablesIn l) (recordsIn l)
 abbrev pub surfaceWords : Row → List ℕ
 surfaceWords r = r .guaranteed ∷ r .hardest ∷ r .most ∷ replicate 5 0
 
+-- and of a table, code after code
+abbrev pub tableWords : List Row → Words
+tableWords rows = map (λ code. surfaceWords (rowOf rows code)) codes
+
 -- a lane that is empty and was never started, with the house rows in force and for the next start, and no other words but 0
 abbrev pub emptyWords : Words
-emptyWords = replicate 8 0 ∷ (map surfaceWords houseRows ++ (map surfaceWords houseRows ++ replicate 72 (replicate 8 0)))
+emptyWords = replicate 8 0 ∷ (tableWords houseRows ++ (tableWords houseRows ++ replicate 72 (replicate 8 0)))

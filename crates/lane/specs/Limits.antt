@@ -1,6 +1,6 @@
 -- The limits of document 01, by name: "Lane end: 1 to 2³¹. Speed limit V: 1 to 8,192. Carrier numbers: 1 to 65,535. At most 64 carriers.
 -- Cycle number: 64 bits".
-use Prim.Native.Nat.{ℕ}
+use Prim.Native.Nat.{ℕ, suc}
 
 -- the last surface code
 abbrev pub lastSurface : ℕ
@@ -8,7 +8,7 @@ lastSurface = 7
 
 -- document 02, T-01: "eight rows", a code for each
 abbrev pub surfaces : ℕ
-surfaces = 8
+surfaces = suc lastSurface
 
 -- T-01: "B at most 255 and A 1 to 255"
 abbrev pub highestRate : ℕ

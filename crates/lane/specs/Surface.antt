@@ -9,11 +9,11 @@ use Rattle.lane.specs.declared.Road.{Road}
 use Rattle.lane.specs.declared.Row.{Row}
 use Rattle.lane.specs.Limits.{surfaces, highestRate}
 
--- a column of the table: b, B and A
+-- a row: b, B and A
 abbrev pub row : ℕ → ℕ → ℕ → Row
 row b B A = record { guaranteed = b; hardest = B; most = A }
 
--- the table's columns, code 0 to code 7: "the house rows serve until a table is loaded"
+-- the columns of document 01's table, code 0 to code 7: "the house rows serve until a table is loaded"
 unfoldable pub houseRows : List Row
 houseRows =
     row 64 128 32 ∷ row 56 120 32 ∷ row 48 112 24 ∷ row 40 96 24 ∷ row 32 96 16 ∷ row 16 64 12 ∷ row 6 48 8 ∷ row 1 255 1 ∷ []
@@ -32,7 +32,7 @@ unfoldable pub unsoundBelow : (n : ℕ) → List Row → Bool
 unsoundBelow zero rows = false
 unsoundBelow (suc n) rows = unsoundBelow n rows || not (soundRow (rowOf rows n))
 
--- one of the "eight rows" is
+-- one of the "eight rows" is; one that is missing counts as zeros, and none past the eighth is looked at
 unfoldable pub unsound : List Row → Bool
 unsound rows = unsoundBelow surfaces rows
 

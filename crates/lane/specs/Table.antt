@@ -14,7 +14,7 @@ use Rattle.lane.specs.Surface.{row, unsound}
 use Rattle.lane.specs.State.{State}
 use Rattle.lane.specs.Rules.{broken}
 
--- the text of rows; the law `table-text` says that the reader takes it for them, and takes no other
+-- the text of rows: the reader takes that of eight sound ones for them, by the law `table-text`, and no other text for any, by `table-taken`
 unfoldable pub rowText : Row → List ℕ
 rowText r =
     line (ascii "b=") (decimal (r .guaranteed)) ++ (line (ascii "B=") (decimal (r .hardest)) ++ line (ascii "A=") (decimal (r .most)))

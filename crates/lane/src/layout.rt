@@ -1,4 +1,4 @@
-// Which word of a lane is where: no other module knows.
+// Which word of a lane is where: no other module knows more of it than the names of the two tables.
 ghost use mathlib.Core.Path.{_≡_};
 ghost use mathlib.Core.List.{List, map};
 ghost use Prim.Native.Nat.{ℕ, _≤_, _<_};
@@ -131,7 +131,7 @@ pub(crate) fn surface_at(l: &Lane, table: usize, code: usize) -> [u64; 3]
     [row[0], row[1], row[2]]
 }
 
-// A surface row put in a row of the lane; the free words of that row stay.
+// A surface row put in a row of the lane; the free words of that row are put back, which takes no instruction.
 fn put_surface(l: &mut Lane, at: usize, surface: [u64; 3])
     requires { ⌜ at < 89 ⌝ }
     ensures { λ r. ⌜ ((w : List ℕ) × ((now (l .exit) ≡ set (now (l .entry)) at w) × (surfaceIn w ≡ surfaceIn surface))) ⌝ }

@@ -25,7 +25,7 @@ use crate::layout;
 use crate::places;
 use crate::rows;
 
-// A number of a lawful carrier, which 32 bits hold.
+// A number of a lawful carrier or of a sound row, which 32 bits hold.
 pub(crate) fn narrow(x: u64) -> u32
     requires { ⌜ x < 4294967296 ⌝ }
     ensures { λ r. ⌜ r ≡ x ⌝ }
@@ -186,8 +186,8 @@ fn linked(l: &Lane, next: &[u8; 64], first: usize, count: usize, number: u64) ->
     false
 }
 
-// The carriers break a rule, by the row in force, looked at from the back. A number is searched for among those alike in their low six bits: `first` has the place of the
-// first of each sort so far, and `next` links it to the others.
+// The carriers break a rule, by the row in force, looked at from the back. A number is searched for among those alike in their low six bits: `first`
+// has the place of the first of each sort so far, and `next` links it to the others.
 fn any_fault(l: &Lane, road: Road, row: Row, count: usize) -> bool
     requires { ⌜ (count ≤ 64) × ((length (recordsIn (now l)) ≡ 64) × (roadNo road ≡ 0)) ⌝ }
     requires { ⌜ (1 ≤ row .guaranteed) × (1 ≤ row .hardest) ⌝ }

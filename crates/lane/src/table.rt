@@ -11,7 +11,8 @@ ghost use Rattle.lane.specs.Table.{Rows, malformed, rowLines, tableIn, b
 use crate::SURFACES;
 use crate::Table;
 
-const MOST: u64 = 0xFFFF_FFFF_FFFF_FFFF;
+// The most that a line's number is.
+const WIDEST: u64 = 0xFFFF_FFFF_FFFF_FFFF;
 
 // Whether the lines of a row are there, its numbers, and the place after them.
 pub(crate) struct RowRead {
@@ -24,9 +25,9 @@ pub(crate) struct RowRead {
 fn read_row(text: &[u8], at: usize) -> RowRead
     ensures { λ r. ⌜ ((k : SurfaceRow → List ℕ → Rows) → rowLines (drop at (now (text .entry))) k ≡ cond (r .ok) (k (surfaceIn (r .row)) (drop (r .next) (now (text .entry)))) malformed) ⌝ }
 {
-    let guaranteed = text::read_field(text, at, b"b=", MOST);
-    let hardest = text::read_field(text, guaranteed.next, b"B=", MOST);
-    let most = text::read_field(text, hardest.next, b"A=", MOST);
+    let guaranteed = text::read_field(text, at, b"b=", WIDEST);
+    let hardest = text::read_field(text, guaranteed.next, b"B=", WIDEST);
+    let most = text::read_field(text, hardest.next, b"A=", WIDEST);
     RowRead {
         ok: guaranteed.ok & hardest.ok & most.ok,
         row: [guaranteed.value, hardest.value, most.value],

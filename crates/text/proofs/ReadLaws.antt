@@ -11,7 +11,7 @@ use lib.Seq.{take-at, drop-append-seam, length-take-le}
 use borrow.Author.Tests.{lt-ltb, le-ltb, le-leb, eq-eqb, ne-eqb, ltb-true, leb-true, eqb-true}
 use Rattle.text.specs.Numbers.{digits, decimal, hexadecimal}
 use Rattle.text.specs.Lines.{line}
-use Rattle.text.specs.Fields.{lineLength, startsWith, longestLine, hasLine, LineRead, lineValue, isWord, isDecimal, areDigits, numberSpelt, numberIn, bitsIn, fieldIn, valueIn}
+use Rattle.text.specs.Fields.{lineLength, startsWith, longestLine, hasLine, LineRead, lineValue, isWord, isDecimal, areDigits, numberSpelt, numberIn, bitsIn, fieldIn, isNumber, valueIn}
 use Rattle.text.specs.declared.fields.Line.{Line}
 use Rattle.text.specs.declared.numbers.Number.{Number}
 use Rattle.text.specs.declared.numbers.Number.the-variants.{Is, Malformed}
@@ -141,6 +141,15 @@ line-append (b ∷ l) text e =
     let s = goes-on (eqb b 10) (lineLength l) (length l) e in
     rw (s .0) (omega (arith, line-append l text (s .1)))
 
+-- one byte after another
+pub no-bytes : lineLength [] ≡ length {A = ℕ} []
+unfolding lineLength
+no-bytes = refl
+
+pub no-newline : (b : ℕ) (l : List ℕ) → ¬ (b ≡ 10) → lineLength l ≡ length l → lineLength (b ∷ l) ≡ length (b ∷ l)
+unfolding lineLength
+no-newline b l h e = rw (ne-eqb b 10 h) (ap suc e)
+
 starts-itself : (key text : List ℕ) → startsWith key (key ++ text) ≡ true
 unfolding startsWith
 starts-itself [] text = refl
@@ -225,6 +234,20 @@ bits-put ds n e =
     (sym (hexadecimal-again 0 0 ds (t .1)) ∙ rw (l, c .1), rw (c .1) at (bits-below ds l (t .1)))
 
 -- ---- a line with a number
+
+-- a number that is there, and one that is not
+module _ (n : ℕ) where
+  pub number-is : isNumber (Is n) ≡ true
+  unfolding isNumber
+  number-is = refl
+
+  pub number-value : valueIn (Is n) ≡ n
+  unfolding valueIn
+  number-value = refl
+
+pub no-number : isNumber Malformed ≡ false
+unfolding isNumber
+no-number = refl
 
 pub field-read : (key rest : List ℕ) (most n : ℕ) → lineLength key ≡ length key → length key + length (decimal n) < longestLine → n ≤ most
     → fieldIn key most (line key (decimal n) ++ rest) ≡ Is n

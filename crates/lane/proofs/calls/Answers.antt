@@ -98,14 +98,14 @@ accepted-sound s later e = sound s (passed (broken s) 20 later e .0)
 pub record Loads (s : State) (text : List ℕ) : Type 0 where
   pub lawful : s .started && broken s ≡ false
   pub good : badTable (tableIn text) ≡ false
-  pub free : s .started && ltb 0 (s .count) ≡ false
+  pub empty : s .started && ltb 0 (s .count) ≡ false
 
 pub load-tells : (s : State) (text : List ℕ) → loadNo s text ≡ 0 → Loads s text
 unfolding loadNo
 load-tells s text e =
     let first = passed (s .started && broken s) 20 _ e in
     let second = passed (badTable (tableIn text)) 30 _ (first .1) in
-    record { lawful = first .0; good = second .0; free = passed (s .started && ltb 0 (s .count)) 31 0 (second .1) .0 }
+    record { lawful = first .0; good = second .0; empty = passed (s .started && ltb 0 (s .count)) 31 0 (second .1) .0 }
 
 -- a lane has no more carriers than it counts
 pub counted-most : (l : Words) → length (stateOf l .carriers) ≤ stateOf l .count

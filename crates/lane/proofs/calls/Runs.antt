@@ -13,7 +13,7 @@ use Rattle.lane.specs.declared.Drive.{Drive}
 use Rattle.lane.specs.State.{State}
 use Rattle.lane.specs.Layout.{Words, recordsIn, stateOf}
 use Rattle.lane.specs.Wishes.{wishedUnits, anyOutside, replacedIn, wordOf, countOf}
-use Rattle.lane.specs.Calls.{withCarriers, atCycle, drivesWith, leftAfter, cycleDrives, readyNo, cycleNo, cycleWord, cycleReplaced, cycleCarriers, cycleGone, cycledState}
+use Rattle.lane.specs.Calls.{withCarriers, atCycle, drivesWith, leftAfter, cycleDrives, readyNo, cycleWord, cycleReplaced, cycleCarriers, cycleGone, cycledState}
 use Rattle.lane.specs.Call.{Call, cycle-call, cycled, Gives}
 use Rattle.lane.specs.Given.{wishesNo, wishesGiven, GivesWith}
 use Rattle.lane.proofs.driving.Making.{unfitNo, unfit-tells, given-take}

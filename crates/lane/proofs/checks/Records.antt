@@ -12,7 +12,7 @@ use Rattle.lane.specs.declared.Row.{Row}
 use Rattle.lane.specs.declared.layout.Figures.{Figures}
 use Rattle.lane.specs.Surface.{row, rowOf, Tables}
 use Rattle.lane.specs.State.{State}
-use Rattle.lane.specs.Layout.{Words, surfaceIn, codes, tableFrom, tablesIn, surfaceWords, recordIn, recordsIn, figuresIn, stateWith, stateOf}
+use Rattle.lane.specs.Layout.{Words, surfaceIn, codes, tableFrom, tablesIn, tableWords, recordIn, recordsIn, figuresIn, stateWith, stateOf}
 use Rattle.lane.specs.Calls.{none, atCycle, withCarriers}
 
 map-set : {A B : Type 0} (f : A → B) (l : List A) (i : ℕ) (a : A) → map f (set l i a) ≡ set (map f l) i (f a)
@@ -121,15 +121,11 @@ unfolding rowFor
 read-back [] = refl
 read-back (c ∷ cs) = ap (λ ds. c ∷ ds) (read-back cs)
 
--- the rows of a table
-tableFor : List Row → Words
-tableFor rows = map (λ code. surfaceWords (rowOf rows code)) codes
-
 -- a lane of that state
 pub wordsFor : State → Words
 wordsFor s =
     (cond (s .started) 1 0 ∷ s .road .surface ∷ s .road .end ∷ s .road .limit ∷ s .cycle ∷ s .count ∷ [])
-    ∷ (tableFor (s .tables .inForce) ++ (tableFor (s .tables .next) ++ (replicate 8 [] ++ map rowFor (s .carriers))))
+    ∷ (tableWords (s .tables .inForce) ++ (tableWords (s .tables .next) ++ (replicate 8 [] ++ map rowFor (s .carriers))))
 
 -- a state that counts its carriers, of the lanes' eight rows in each table
 pub record Fills (s : State) : Type 0 where
@@ -139,7 +135,7 @@ pub record Fills (s : State) : Type 0 where
 
 -- is that of some lane
 pub words-for : (s : State) → Fills s → stateOf (wordsFor s) ≡ s
-unfolding wordsFor tableFor tableFrom recordsIn
+unfolding wordsFor tableFrom recordsIn
 words-for s h =
     rw (read-back (s .carriers), take-all (s .count) (s .carriers) (omega (arith, h .counted)), code-by-code (s .tables .inForce) (h .in-force), code-by-code (s .tables .next) (h .next))
     (by-started (s .started))
@@ -152,9 +148,9 @@ words-for s h =
 
 -- a lane with other rows for the next start, whatever it counts
 pub withNext : Words → List Row → Words
-withNext l rows = getD l 0 [] ∷ (map (λ code. getD l (1 + code) []) codes ++ (tableFor rows ++ (replicate 8 [] ++ drop 25 l)))
+withNext l rows = getD l 0 [] ∷ (map (λ code. getD l (1 + code) []) codes ++ (tableWords rows ++ (replicate 8 [] ++ drop 25 l)))
 
 pub with-next : (l : Words) (rows : List Row) → length rows ≡ 8
     → stateOf (withNext l rows) ≡ stateWith (figuresIn l) (record { inForce = tablesIn l .inForce; next = rows }) (recordsIn l)
-unfolding withNext tableFor tableFrom recordsIn
+unfolding withNext tableFrom recordsIn
 with-next l rows e = ap (λ (rs : List Row). stateWith (figuresIn l) (record { inForce = tablesIn l .inForce; next = rs }) (recordsIn l)) (code-by-code rows e)

@@ -20,10 +20,10 @@ use Rattle.lane.specs.Table.{Rows, rows, malformed, before, numberMost, 
 -- ---- one row
 
 -- a line of a key, as the text's reader tells of it
-line-read : (key text : List ℕ) (at : ℕ) (f : Field) → FieldRead key numberMost text at f → (k : ℕ → List ℕ → Rows)
+line-told : (key text : List ℕ) (at : ℕ) (f : Field) → FieldRead key numberMost text at f → (k : ℕ → List ℕ → Rows)
     → numberLine key (drop at text) k ≡ cond (f .ok) (k (f .value) (drop (f .next) text)) malformed
 unfolding numberLine
-line-read key text at f told k = by-test (isNumber (fieldIn key numberMost (drop at text))) refl
+line-told key text at f told k = by-test (isNumber (fieldIn key numberMost (drop at text))) refl
   where
     by-test : (t : Bool) → isNumber (fieldIn key numberMost (drop at text)) ≡ t
         → cond (isNumber (fieldIn key numberMost (drop at text))) (k (valueIn (fieldIn key numberMost (drop at text))) (drop (suc (lineLength (drop at text))) (drop at text))) malformed
@@ -31,13 +31,13 @@ line-read key text at f told k = by-test (isNumber (fieldIn key numberMost (drop
     by-test true e = rw (told .ok, told .value, told .next, e) (ap (k _) (drop-drop (suc (lineLength (drop at text))) at text))
     by-test false e = rw (told .ok, e) refl
 
-pub row-read : (text : List ℕ) (at : ℕ) (b B A : Field) → FieldRead (ascii "b=") numberMost text at b → FieldRead (ascii "B=") numberMost text (b .next) B
+pub row-told : (text : List ℕ) (at : ℕ) (b B A : Field) → FieldRead (ascii "b=") numberMost text at b → FieldRead (ascii "B=") numberMost text (b .next) B
     → FieldRead (ascii "A=") numberMost text (B .next) A → (k : Row → List ℕ → Rows)
     → rowLines (drop at text) k ≡ cond (b .ok && B .ok && A .ok) (k (row (b .value) (B .value) (A .value)) (drop (A .next) text)) malformed
 unfolding rowLines
-row-read text at b B A first second third k =
-    line-read (ascii "b=") text at b first _
-    ∙ rw (line-read (ascii "B=") text (b .next) B second, line-read (ascii "A=") text (B .next) A third) (together (b .ok) (B .ok) (A .ok) _)
+row-told text at b B A first second third k =
+    line-told (ascii "b=") text at b first _
+    ∙ rw (line-told (ascii "B=") text (b .next) B second, line-told (ascii "A=") text (B .next) A third) (together (b .ok) (B .ok) (A .ok) _)
   where
     together : (s t u : Bool) (x : Rows) → cond s (cond t (cond u x malformed) malformed) malformed ≡ cond (s && t && u) x malformed
     together true true u x = refl

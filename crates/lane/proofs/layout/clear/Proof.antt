@@ -1,5 +1,5 @@
 -- The house rows go to both tables, and every other word is 0.
-use Rattle.lane.specs.Surface.{houseRows}
+use Rattle.lane.specs.Surface.{houseRows, rowOf}
 use borrow.Author.Needs.{needs}
 use Rattle.lane.proofs.layout.clear.Statement.{statement}
 use Rattle.lane.proofs.layout.clear.Tie as tie
@@ -77,7 +77,7 @@ element-set-from-l-16 : tie.Need-element-set-from-l-16
 element-set-from-l-16 c = search needs
 
 returns : tie.Need-returns
-unfolding houseRows
+unfolding houseRows rowOf
 returns c = search needs
 
 pub clear-spec : {M : Type 1} → statement M

@@ -9,7 +9,6 @@ use Rattle.lane.specs.Surface.{rowOf}
 use Rattle.lane.specs.Layout.{tableFrom}
 use Rattle.lane.proofs.checks.Records.{code-by-code, table-eight}
 use Rattle.lane.proofs.checks.Tables.{Put, put-start, put-next, put-all}
-use borrow.Author.Needs.{needs}
 use Rattle.lane.proofs.layout.put_in_force.Statement.{statement}
 use Rattle.lane.proofs.layout.put_in_force.Tie as tie
 

@@ -10,7 +10,6 @@ use Rattle.lane.specs.Surface.{rowOf}
 use Rattle.lane.specs.Layout.{surfaceIn}
 use Rattle.lane.proofs.checks.Records.{code-by-code}
 use Rattle.lane.proofs.checks.Tables.{row-read, Put, put-start, put-next, put-all}
-use borrow.Author.Needs.{needs}
 use Rattle.lane.proofs.layout.put_next.Statement.{statement}
 use Rattle.lane.proofs.layout.put_next.Tie as tie
 

@@ -1,6 +1,5 @@
 -- `lane::listing::longer_than` meets its contract: a buffer of the longest text holds every text of a lane that breaks no rule.
-use mathlib.Core.Path.{_≡_, sym, ap}
-use Prim.Native.Nat.{ℕ, _≤_}
+use mathlib.Core.Path.{sym, ap}
 use native.Mathlib.Omega.{arith}
 use borrow.Author.Tests.{le-ltb}
 use lib.Dec.{ltb}

@@ -1,6 +1,6 @@
 -- Each field is read where the one before ends.
 use borrow.Author.Needs.{needs}
-use Rattle.lane.proofs.checks.TableTexts.{row-read}
+use Rattle.lane.proofs.checks.TableTexts.{row-told}
 use Rattle.lane.proofs.table.read_row.Statement.{statement}
 use Rattle.lane.proofs.table.read_row.Tie as tie
 
@@ -28,7 +28,7 @@ returns c =
     let second = third .before .before in
     let first = second .before .before in
     let a = first .before .before .before .args in
-    row-read (a .text .now) (a .at) (first .read-field .result) (second .read-field2 .result) (third .read-field3 .result) (first .read-field .ensures) (second .read-field2 .ensures) (third .read-field3 .ensures)
+    row-told (a .text .now) (a .at) (first .read-field .result) (second .read-field2 .result) (third .read-field3 .result) (first .read-field .ensures) (second .read-field2 .ensures) (third .read-field3 .ensures)
 
 pub read-row-spec : {M : Type 1} → statement M
 read-row-spec =
