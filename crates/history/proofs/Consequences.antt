@@ -54,6 +54,11 @@ pub record SameCarrier (c d : Carrier) : Type 0 where
 pub as-many : (after : Words) (s : Seen) (b : Book) → Claims after s b → length (stateOf after .carriers) ≡ length (booked s b .carriers)
 as-many after s b c = ap length (c .carriers)
 
+-- the lane has the book's surface, end and limit, and its rows in force and for the next start
+pub same-road-and-rows : (after : Words) (s : Seen) (b : Book) → Claims after s b
+    → (stateOf after .road ≡ booked s b .road) × (stateOf after .tables ≡ booked s b .tables)
+same-road-and-rows after s b c = (c .road, c .tables)
+
 pub at-each-place : (after : Words) (s : Seen) (b : Book) → Claims after s b → (i : ℕ)
     → SameCarrier (getD (stateOf after .carriers) i none) (carrierAt (booked s b) i)
 at-each-place after s b c i =
