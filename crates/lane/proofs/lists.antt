@@ -4,4 +4,5 @@ pub mod Shift
 pub mod Tests
 pub mod Passed
 pub mod Search
+pub mod Lookups
 pub mod Words

@@ -3,6 +3,7 @@ pub mod Surface
 pub mod State
 pub mod Layout
 pub mod Safety
+pub mod Lookup
 pub mod Rules
 pub mod Wishes
 pub mod Table

@@ -12,12 +12,16 @@ ghost use Rattle.lane.specs.Given.{GivesWith};
 mod given;
 mod layout;
 mod listing;
+mod lookup;
 mod motion;
 mod places;
 mod rows;
 mod rules;
 mod table;
 
+pub use lookup::Found;
+pub use lookup::Lookup;
+pub use lookup::find;
 use wish::Reading;
 use wish::Wish;
 

@@ -1,10 +1,8 @@
-// Places on the lane: where an entry goes, where a number stands, and the records moved to make or close a gap.
+// Places on the lane: where an entry goes, and the records moved to make or close a gap.
 ghost use mathlib.Core.Path.{_≡_};
 ghost use Prim.Native.Nat.{_+_, _≤_, _<_};
 ghost use lib.ListN.{take};
-ghost use lib.Seq.{slice};
 ghost use Rattle.lane.specs.Layout.{recordsIn, stateOf};
-ghost use Rattle.lane.specs.Safety.{firstPlace, numbered};
 ghost use Rattle.lane.specs.Calls.{withCarriers, walk, insertAt, removeAt};
 use crate::Carrier;
 use crate::Lane;
@@ -28,23 +26,6 @@ pub(crate) fn entry_place(l: &Lane, count: usize, position: u64) -> usize
         i += 1;
     };
     place
-}
-
-// The first place from `from` on with the number, or `count` if there is none.
-pub(crate) fn find_from(l: &Lane, from: usize, count: usize, number: u64) -> usize
-    requires { ⌜ (from ≤ count) × (count ≤ 64) ⌝ }
-    ensures { λ r. ⌜ r ≡ from + firstPlace (numbered number) (slice from count (recordsIn (now (l .entry)))) ⌝ }
-{
-    layout::sized(l);
-    let mut i = from;
-    while i < count {
-        let c = layout::carrier_at(l, i);
-        if c.number == number {
-            return i;
-        }
-        i += 1;
-    }
-    i
 }
 
 // The carriers from `place` on moved one back, and the newcomer put in.

@@ -14,6 +14,7 @@ ghost use Rattle.lane.specs.Calls.{none, ifAccepted, startNo, walk, gapN
 use crate::Carrier;
 use crate::FARTHEST_END;
 use crate::FASTEST;
+use crate::Found;
 use crate::HIGHEST_NUMBER;
 use crate::LAST_CYCLE;
 use crate::LAST_SURFACE;
@@ -22,6 +23,7 @@ use crate::MOST_CARRIERS;
 use crate::Road;
 use crate::Row;
 use crate::layout;
+use crate::lookup;
 use crate::places;
 use crate::rows;
 
@@ -144,22 +146,6 @@ fn safe(row: Row, ahead: Carrier, c: Carrier) -> bool
         narrow(ahead.position),
         narrow(ahead.speed),
     )
-}
-
-// Some carrier from a place on has the number. Its place is not asked for: a search with no place to tell is shorter.
-fn numbered_from(l: &Lane, from: usize, count: usize, number: u64) -> bool
-    requires { ⌜ (from ≤ count) × ((count ≤ 64) × (length (recordsIn (now l)) ≡ 64)) ⌝ }
-    ensures { λ r. ⌜ r ≡ anyOf (numbered number) (slice from count (recordsIn (now (l .entry)))) ⌝ }
-{
-    let mut i = from;
-    while i < count {
-        let c = layout::carrier_at(l, i);
-        if c.number == number {
-            return true;
-        }
-        i += 1;
-    }
-    false
 }
 
 fn place_of(mark: u8) -> usize
@@ -286,8 +272,11 @@ fn find_place(l: &Lane, c: Carrier) -> Checked
     if count == MOST_CARRIERS {
         return refused(22);
     }
-    if numbered_from(l, 0, count, c.number) {
-        return refused(23);
+    let same = lookup::find(l, c.number);
+    let found = same.found;
+    match found {
+        Found::At(_) => return refused(23),
+        Found::Absent => {}
     }
     let place = places::entry_place(l, count, c.position);
     let no = gap_refusal(l, rows::row_in(l, road), count, place, c);
@@ -322,13 +311,12 @@ pub(crate) fn check_named(l: &Lane, number: u64) -> Checked
     if bad_number(number) {
         return refused(4);
     }
-    let f = layout::figures_of(l);
-    let count = f.count;
-    let place = places::find_from(l, 0, count, number);
-    if count <= place {
-        return refused(24);
+    let named = lookup::find(l, number);
+    let found = named.found;
+    match found {
+        Found::At(place) => Checked { no: 0, place },
+        Found::Absent => refused(24),
     }
-    Checked { no: 0, place }
 }
 
 // The checks of load, given whether its table text is bad. A lane never started counts as empty and sound.

@@ -13,9 +13,9 @@ use Rattle.lane.specs.declared.rules.Checked.{Checked}
 use Rattle.lane.specs.Surface.{unsound, rowIn}
 use Rattle.lane.specs.Layout.{Words, figuresIn, tableFrom, tablesIn, recordsIn, stateOf}
 use Rattle.lane.specs.Safety.{anyOf, numbered}
-use Rattle.lane.specs.Rules.{badNumber, roadNo, faulty, broken}
+use Rattle.lane.specs.Rules.{roadNo, faulty, broken}
 use Rattle.lane.specs.Table.{tableIn, badTable, loadNo}
-use Rattle.lane.specs.Calls.{ifAccepted, walk, gapNo, placeNo, namedNo, readyNo}
+use Rattle.lane.specs.Calls.{ifAccepted, walk, gapNo, placeNo, readyNo}
 
 module _ (l : Words) (f : Figures) (e : f ≡ figuresIn l) where
   pub broken-checks : broken (stateOf l)
@@ -25,13 +25,9 @@ module _ (l : Words) (f : Figures) (e : f ≡ figuresIn l) where
   broken-checks = rw e refl
 
   pub place-checks : (c : Carrier) → let cs = take (f .count) (recordsIn l) in
-      placeNo (stateOf l) c ≡ cond (eqb (f .count) 64) 22 (cond (anyOf (numbered (c .number)) cs) 23 (gapNo (rowIn (tablesIn l) (f .road)) (walk (c .position) cs) c cs))
+      placeNo (stateOf l) c ≡ cond (eqb (f .count) 64) 22 (cond (anyOf (numbered (c .number)) (stateOf l .carriers)) 23 (gapNo (rowIn (tablesIn l) (f .road)) (walk (c .position) cs) c cs))
   unfolding placeNo
   place-checks c = rw e refl
-
-  pub named-checks : (number : ℕ) → namedNo (stateOf l) number ≡ cond (broken (stateOf l)) 21 (cond (badNumber number) 4 (cond (anyOf (numbered number) (take (f .count) (recordsIn l))) 0 24))
-  unfolding namedNo
-  named-checks number = rw e refl
 
   pub load-checks : (text : List ℕ) → loadNo (stateOf l) text ≡ cond (f .started && broken (stateOf l)) 21 (cond (badTable (tableIn text)) 31 (cond (f .started && ltb 0 (f .count)) 32 0))
   unfolding loadNo

@@ -2,21 +2,16 @@
 use mathlib.Core.Path.{_≡_, refl, sym, _∙_}
 use mathlib.Core.Bool.{Bool, true, false, cond, _||_}
 use mathlib.Core.List.{List, [], _∷_}
-use Prim.Native.Nat.{ℕ, suc, _+_, _-_, _≤_, _<_}
+use Prim.Native.Nat.{ℕ, suc, _+_, _≤_, _<_}
 use native.Mathlib.Omega.{arith}
-use borrow.Author.Tests.{lt-ltb, le-ltb, ltb-true, ltb-false}
+use borrow.Author.Tests.{lt-ltb}
 use lib.Dec.{ltb, leb·suc-suc}
 use lib.ListN.{length, getD}
-use lib.Seq.{slice, length-slice}
+use lib.Seq.{slice}
 use Rattle.lane.specs.declared.Carrier.{Carrier}
 use Rattle.lane.specs.Safety.{anyOf, firstPlace}
 use Rattle.lane.specs.Calls.{none}
 use Rattle.lane.proofs.lists.Lists.{slice-next, slice-past}
-
--- a test of a place, where the places count from a later one
-later : (t : Bool) (n m from count : ℕ) → from ≤ count → m ≡ count - from → ltb n m ≡ t → ltb (from + n) count ≡ t
-later true n m from count h e p = lt-ltb (from + n) count (omega (arith, ltb-true n m p))
-later false n m from count h e p = le-ltb (from + n) count (omega (arith, ltb-false n m p))
 
 module _ (f : Carrier → Bool) where
   -- the place looked for is not before i
@@ -64,11 +59,3 @@ module _ (f : Carrier → Bool) where
       by-test : (t : Bool) → firstPlace f l ≤ length l → cond t 0 (suc (firstPlace f l)) ≤ suc (length l)
       by-test true h = omega arith
       by-test false h = omega arith
-
-  -- the same of a part of a list
-  pub place-within : (l : List Carrier) (from count place : ℕ) → place ≡ from + firstPlace f (slice from count l)
-      → from ≤ count → count ≤ length l → ltb place count ≡ anyOf f (slice from count l)
-  place-within l from count place e h k =
-      rw e
-      (later (anyOf f (slice from count l)) (firstPlace f (slice from count l)) (length (slice from count l)) from count h (length-slice from count l k)
-      (place-any (slice from count l)))

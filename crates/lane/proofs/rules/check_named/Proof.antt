@@ -1,18 +1,14 @@
--- The checks are made in the order of `namedNo`, and the place found is that of the number.
+-- The checks are made in the order of `namedNo`, and the lookup gives the place.
 use mathlib.Core.Path.{_≡_, refl, sym, _∙_}
 use mathlib.Core.Bool.{false, cond}
-use Prim.Native.Nat.{_≤_}
-use native.Mathlib.Nat.{zero-add}
 use native.Mathlib.Omega.{arith}
 use borrow.Author.Needs.{needs}
-use borrow.Author.Tests.{lt-ltb, le-ltb}
-use lib.Dec.{ltb}
-use Rattle.lane.specs.Layout.{recordsIn, stateOf}
+use Rattle.lane.specs.Layout.{stateOf}
+use Rattle.lane.specs.Safety.{anyOf, numbered}
 use Rattle.lane.specs.Rules.{broken}
 use Rattle.lane.specs.Calls.{namedNo}
-use Rattle.lane.proofs.lists.Search.{place-within}
-use Rattle.lane.proofs.checks.Soundness.{sound-with}
-use Rattle.lane.proofs.checks.Checks.{named-checks, refused-as, accepted-as}
+use Rattle.lane.proofs.lists.Lookups.{found-at, found-nowhere}
+use Rattle.lane.proofs.checks.Checks.{refused-as, accepted-as}
 use Rattle.lane.proofs.rules.check_named.Statement.{statement}
 use Rattle.lane.proofs.rules.check_named.Tie as tie
 
@@ -44,43 +40,35 @@ returns-2 c =
     let a = tested .before .before .before .args in
     refused-as (namedNo (stateOf (a .l .now)) (a .number)) _ _ _ (rw (unbroken (tested .before), ← tested .bad-number .ensures, c .before .if2 .taken) refl) (λ e. omega arith) (c .refused2 .ensures)
 
-figures-of-requires : tie.Need-figures-of-requires
-figures-of-requires c κs = search needs
+find-requires : tie.Need-find-requires
+find-requires c κs = search needs
 
-few : (c : tie.After-figures-of) → c .figures-of .result .count ≤ 64
-few c =
-    let else = c .before .before .before in
-    sound-with (else .before .before .args .l .now) (c .figures-of .result) (c .figures-of .ensures .0) (unbroken else) .count
+-- past 21 and 4 what is found decides
+found-decides : (c : tie.After-find) → let a = c .before .before .before .before .before .args in
+    namedNo (stateOf (a .l .now)) (a .number) ≡ cond (anyOf (numbered (a .number)) (stateOf (a .l .now) .carriers)) 0 24
+unfolding namedNo
+found-decides c = let tested = c .before .before in rw (unbroken (tested .before), ← tested .bad-number .ensures, c .before .if2 .left) refl
 
-find-from-requires : tie.Need-find-from-requires
-find-from-requires c κs = (search needs, few c)
+enum-known-found : tie.Need-enum-known-found
+enum-known-found c = search needs
 
--- past 21 and 4 the place found decides
-place-decides : (c : tie.After-find-from) → let at = c .before in let a = at .before .before .before .before .before .args in
-    namedNo (stateOf (a .l .now)) (a .number) ≡ cond (ltb (c .find-from .result) (at .figures-of .result .count)) 0 24
-place-decides c =
-    let at = c .before in
-    let tested = at .before .before in
-    let a = tested .before .before .before .args in
-    named-checks (a .l .now) _ (at .figures-of .ensures .0) (a .number)
-    ∙ rw (
-      unbroken (tested .before),
-      ← tested .bad-number .ensures,
-      at .before .if2 .left,
-      place-within _ (recordsIn (a .l .now)) 0 (at .figures-of .result .count) _ (c .find-from .ensures) (omega arith) (omega (arith, few at)),
-    )
-    refl
+enum-told : tie.Need-enum-told
+enum-told c = search needs
 
 refused-requires-3 : tie.Need-refused-requires-3
 refused-requires-3 c κs = search needs
 
 returns-3 : tie.Need-returns-3
-returns-3 c = refused-as _ _ _ _ (place-decides (c .before .before) ∙ rw (le-ltb _ _ (c .before .if3 .taken)) refl) (λ e. omega arith) (c .refused3 .ensures)
+returns-3 c =
+    let at = c .before .before .before in
+    let there = found-at _ _ _ (at .find .ensures) _ (c .before .found .given .1) in
+    accepted-as _ _ _ (found-decides at ∙ rw (there .0) refl) (there .1)
 
 returns-4 : tie.Need-returns-4
 returns-4 c =
-    let found = c .before in
-    accepted-as _ _ _ (place-decides found ∙ rw (lt-ltb _ _ (c .if3 .left)) refl) (rw (found .before .figures-of .ensures .0, zero-add) at (found .find-from .ensures))
+    let at = c .before .before .before in
+    let none = found-nowhere _ _ _ (at .find .ensures) (c .before .enum-told .given .1) in
+    refused-as _ _ _ _ (found-decides at ∙ rw none refl) (λ e. omega arith) (c .refused3 .ensures)
 
 pub check-named-spec : {M : Type 1} → statement M
 check-named-spec =
@@ -92,8 +80,9 @@ check-named-spec =
     bad-number-requires
     refused-requires-2
     returns-2
-    figures-of-requires
-    find-from-requires
+    find-requires
+    enum-known-found
+    enum-told
     refused-requires-3
     returns-3
     returns-4)

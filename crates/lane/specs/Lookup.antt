@@ -1,0 +1,17 @@
+-- Document 02, T-02, "Finding a carrier number."
+use Prim.Native.Nat.{ℕ, _+_}
+use mathlib.Core.Bool.{cond}
+use mathlib.Core.List.{List}
+use lib.ListN.{length}
+use Rattle.lane.specs.declared.Carrier.{Carrier}
+use Rattle.lane.specs.declared.lookup.Lookup.{Lookup}
+use Rattle.lane.specs.declared.lookup.Found.the-variants.{At, Absent}
+use Rattle.lane.specs.Safety.{anyOf, firstPlace, numbered}
+
+-- "Looking up a number should end at the find or at the last carrier present"; "how many records it looked at: the place found plus one, else the
+-- carriers present"
+unfoldable pub lookup : (number : ℕ) → List Carrier → Lookup
+lookup number cs =
+    cond (anyOf (numbered number) cs)
+    (record { found = At (firstPlace (numbered number) cs); looked = firstPlace (numbered number) cs + 1 })
+    (record { found = Absent; looked = length cs })
