@@ -1,8 +1,9 @@
 -- Document 02, T-02, "Finding a carrier number."
-use Prim.Native.Nat.{ℕ, _+_}
+use Prim.Native.Nat.{ℕ, _+_, _<_}
+use mathlib.Core.Path.{_≡_}
 use mathlib.Core.Bool.{cond}
 use mathlib.Core.List.{List}
-use lib.ListN.{length}
+use lib.ListN.{length, take, set}
 use Rattle.lane.specs.declared.Carrier.{Carrier}
 use Rattle.lane.specs.declared.lookup.Lookup.{Lookup}
 use Rattle.lane.specs.declared.lookup.Found.the-variants.{At, Absent}
@@ -15,3 +16,8 @@ lookup number cs =
     cond (anyOf (numbered number) cs)
     (record { found = At (firstPlace (numbered number) cs); looked = firstPlace (numbered number) cs + 1 })
     (record { found = Absent; looked = length cs })
+
+-- an answer rests on the first so many records: each of them may change what is found by itself, and no other can
+pub record RestsOn (number : ℕ) (cs : List Carrier) (looked : ℕ) : Type 0 where
+  pub each : (p : ℕ) → p < looked → (c : Carrier) × ¬ (lookup number (set cs p c) .found ≡ lookup number cs .found)
+  pub others : (ds : List Carrier) → length ds ≡ length cs → take looked ds ≡ take looked cs → lookup number ds ≡ lookup number cs

@@ -52,8 +52,9 @@ pub fn find(l: &Lane, number: u64) -> Lookup
     let mut looked: usize = 0;
     while looked < count {
         if look(l, number, &mut looked) {
+            let place = looked - 1;
             return Lookup {
-                found: Found::At(looked - 1),
+                found: Found::At(place),
                 looked,
             };
         }

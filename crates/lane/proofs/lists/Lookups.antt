@@ -32,11 +32,11 @@ module _ (number : ℕ) (cs : List Carrier) where
   abbrev answer : Bool → Lookup
   answer t = cond t (record { found = At place; looked = place + 1 }) (record { found = Absent; looked = length cs })
 
-  lookup-found : place < length cs → lookup number cs ≡ record { found = At place; looked = place + 1 }
+  pub lookup-found : place < length cs → lookup number cs ≡ record { found = At place; looked = place + 1 }
   unfolding lookup
   lookup-found h = rw (sym (place-any (numbered number) cs) ∙ lt-ltb place (length cs) h) refl
 
-  lookup-absent : length cs ≤ place → lookup number cs ≡ record { found = Absent; looked = length cs }
+  pub lookup-absent : length cs ≤ place → lookup number cs ≡ record { found = Absent; looked = length cs }
   unfolding lookup
   lookup-absent h = rw (sym (place-any (numbered number) cs) ∙ le-ltb place (length cs) h) refl
 

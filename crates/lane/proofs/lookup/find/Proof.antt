@@ -49,8 +49,8 @@ look-requires c κs =
     let at = c .before .before in
     looks-at (number at) (cs at) (at .loop .looked) (omega (arith, counted at)) (not-past at)
 
-sub-t10 : tie.Need-sub-t10 Inv-loop μ-loop
-sub-t10 c = omega (arith, c .before .look .ensures .1)
+sub-place : tie.Need-sub-place Inv-loop μ-loop
+sub-place c = omega (arith, c .before .look .ensures .1)
 
 -- what `look` tells of the record at the loop's place
 module _ (c : tie.After-look Inv-loop μ-loop) where
@@ -64,16 +64,24 @@ module _ (c : tie.After-look Inv-loop μ-loop) where
   in-reach = omega (arith, counted at)
 
 returns : tie.Need-returns Inv-loop μ-loop
-returns c = let at = at (c .before) in ends-found (number at) (cs at) (at .loop .looked) (at .loop .inv .1) (in-reach (c .before)) (sym (c .before .look .ensures .0) ∙ c .if1 .taken) _ (next (c .before))
+returns c =
+    let at = at (c .before) in
+    ends-found (number at) (cs at) (at .loop .looked) (at .loop .inv .1) (in-reach (c .before))
+    (sym (c .before .look .ensures .0) ∙ c .if1 .taken) _ (next (c .before))
 
 loop-less : tie.Need-loop-less Inv-loop μ-loop
 loop-less c = omega (arith, next (c .before), counted (at (c .before)))
 
 loop-again : tie.Need-loop-again Inv-loop μ-loop
-loop-again c = let at = at (c .before) in (omega (arith, next (c .before), in-reach (c .before)), goes-on (number at) (cs at) (at .loop .looked) (at .loop .inv .1) (in-reach (c .before)) (sym (c .before .look .ensures .0) ∙ c .if1 .left) _ (next (c .before)))
+loop-again c =
+    let at = at (c .before) in (
+      omega (arith, next (c .before), in-reach (c .before)),
+      goes-on (number at) (cs at) (at .loop .looked) (at .loop .inv .1) (in-reach (c .before))
+          (sym (c .before .look .ensures .0) ∙ c .if1 .left) _ (next (c .before)),
+    )
 
 returns-2 : tie.Need-returns-2 Inv-loop μ-loop
 returns-2 c = let at = c .before in ends-absent (number at) (cs at) (at .loop .looked) (at .loop .inv .1) (omega (arith, counted at, at .loop .inv .0))
 
 pub find-spec : {M : Type 1} → statement M
-find-spec = tie.close (tie.spec Inv-loop μ-loop present-requires loop-holds look-requires sub-t10 returns loop-less loop-again returns-2)
+find-spec = tie.close (tie.spec Inv-loop μ-loop present-requires loop-holds look-requires sub-place returns loop-less loop-again returns-2)
