@@ -145,7 +145,7 @@ fn unused_number(random: &mut Random, lane: &Lane) -> u64 {
             1 => random.below(65_536),
             _ => 1 + random.below(200),
         };
-        if number != 0 && lane.place_of(number).is_none() {
+        if number != 0 && lane.look_up(number).place.is_none() {
             return number;
         }
     }
