@@ -3,7 +3,10 @@
 mod common;
 
 use common::{carrier, full_lane, refused};
+use lane_reference::lane::NUMBERS;
+use lane_reference::random::{call, history, unsound_lane, History, Random, EVEN};
 use lane_reference::{Call, FastLane, Lane, Lookup, Supervisor};
+use std::collections::BTreeMap;
 
 /// The first so many carriers of the full lane, numbered from 1; the others'
 /// numbers stay behind in idle records.
@@ -108,4 +111,70 @@ fn enter_goes_as_far_as_the_last_carrier_and_no_further() {
         let newcomer = carrier(count + 1, 9_000, 0);
         assert_eq!(FastLane(lane).enter(newcomer), Ok(0), "of {count}");
     }
+}
+
+/// The call's name, the most carriers with which it looks a number up, and the
+/// number; none where it is refused for the number itself.
+fn asked(call: &Call) -> Option<(&'static str, usize, u64)> {
+    let asked = match *call {
+        Call::Enter(newcomer) => ("enter", 63, newcomer.number),
+        Call::Leave { number } => ("leave", 64, number),
+        Call::Read { number } => ("read", 64, number),
+        _ => return None,
+    };
+    NUMBERS.contains(&asked.2).then_some(asked)
+}
+
+/// Where a lookup that goes too far, or not far enough, shows.
+fn edges(lane: &Lane, most: usize, number: u64) -> [(&'static str, bool); 6] {
+    let (count, place) = (lane.present().len(), lane.look_up(number).place);
+    let (absent, last) = (place.is_none(), place.is_some_and(|at| at + 1 == count));
+    let idle = lane.carriers.get(count).map(|idle| idle.number);
+    [
+        ("first", place == Some(0)),
+        ("last", last && count > 1),
+        ("last of the most", last && count == most),
+        ("absent on none", absent && count == 0),
+        ("absent on the most", absent && count == most),
+        ("left behind", absent && idle == Some(number)),
+    ]
+}
+
+#[test]
+fn histories_crowd_the_edges_of_a_lookup() {
+    let mut met = BTreeMap::new();
+    for seed in 0..1_000 {
+        let History { first, calls } = history(&mut Random::new(seed), 130);
+        let mut lane = FastLane(first);
+        for call in &calls {
+            if let Some((name, most, number)) = asked(call) {
+                for (edge, there) in edges(&lane.0, most, number) {
+                    *met.entry((name, edge)).or_insert(0) += u32::from(there);
+                }
+            }
+            // Refused calls belong to a history as well.
+            let _ = lane.call(call);
+        }
+    }
+    assert!(
+        met.len() == 3 * 6 && met.values().all(|&times| times > 5),
+        "{met:?}"
+    );
+}
+
+#[test]
+fn numbers_that_stand_twice_are_asked_for() {
+    let (mut random, mut twice) = (Random::new(11), BTreeMap::new());
+    for _ in 0..20_000 {
+        let lane = unsound_lane(&mut random);
+        if let Some((name, _, number)) = asked(&call(&mut random, &lane, &EVEN)) {
+            let present = lane.present().iter();
+            let stands = present.filter(|carrier| carrier.number == number).count();
+            *twice.entry(name).or_insert(0) += u32::from(stands > 1);
+        }
+    }
+    assert!(
+        twice.len() == 3 && twice.values().all(|&times| times > 5),
+        "{twice:?}"
+    );
 }
