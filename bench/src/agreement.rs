@@ -1,6 +1,7 @@
 //! What is compared by cost must do the same.
 
 use crate::call::Call;
+use crate::lookup::Asked;
 use crate::sample::{carrier, road, rows, Sample};
 use crate::{library, reference};
 use lane_reference::Refusal;
@@ -16,6 +17,20 @@ pub fn check(sample: &mut Sample) {
         let values = by_reference(call, sample).expect("an accepted call");
         assert_eq!(ours, ((0, values), sample.text), "{}", call.name());
         lanes_agree(call, sample);
+    }
+}
+
+/// Panics unless both sides answer the reads that tell of lookups as they must.
+pub fn check_lookups(sample: &mut Sample) {
+    sample.restore(Call::Read);
+    for asked in Asked::ALL {
+        sample.asked = asked.number(sample);
+        let expected = match by_reference(Call::Read, sample) {
+            Ok(values) => (0, values),
+            Err(refusal) => (refusal.number(), vec![0; 2]),
+        };
+        assert_eq!(expected.0, asked.refusal());
+        assert_eq!(by_library(Call::Read, sample), expected);
     }
 }
 

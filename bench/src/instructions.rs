@@ -3,9 +3,11 @@
 //! a file each time that `counted` returns.
 
 use crate::call::Call;
+use crate::lookup::Asked;
 use crate::sample::{all_samples, Sample, CARRIERS, SAMPLES};
 use crate::table::Sides;
 use crate::{library, reference};
+use std::ops::Range;
 use std::path::Path;
 use std::process::Command;
 use std::{env, fs, io};
@@ -13,8 +15,18 @@ use std::{env, fs, io};
 /// The flag of the run under valgrind.
 pub const COUNTED: &str = "--counted";
 
-/// The mean over the samples for each number of carriers and each call.
-pub fn costs() -> io::Result<Vec<Sides>> {
+/// Means over the samples.
+pub struct Costs {
+    /// For each number of carriers and each call.
+    pub calls: Vec<Sides>,
+    /// For each number of carriers and each thing that a read may ask for.
+    pub reads: Vec<Sides>,
+}
+
+const CALLS: usize = CARRIERS.len() * Call::ALL.len();
+const READS: usize = CARRIERS.len() * Asked::ALL.len();
+
+pub fn costs() -> io::Result<Costs> {
     let directory = env::temp_dir().join(format!("lane-bench-{}", std::process::id()));
     fs::create_dir_all(&directory)?;
     let costs = run_counted(&directory).and_then(|()| read_costs(&directory));
@@ -42,16 +54,22 @@ fn run_counted(directory: &Path) -> io::Result<()> {
     Err(io::Error::other(complaint))
 }
 
+fn read_costs(directory: &Path) -> io::Result<Costs> {
+    Ok(Costs {
+        calls: read_runs(directory, 0..CALLS)?,
+        reads: read_runs(directory, CALLS..CALLS + READS)?,
+    })
+}
+
 /// The files are numbered from 1, in the order of the run.
-fn read_costs(directory: &Path) -> io::Result<Vec<Sides>> {
-    (0..CARRIERS.len() * Call::ALL.len())
-        .map(|index| {
-            Ok(Sides {
-                library: mean(directory, 2 * index + 1)?,
-                reference: mean(directory, 2 * index + 2)?,
-            })
+fn read_runs(directory: &Path, runs: Range<usize>) -> io::Result<Vec<Sides>> {
+    runs.map(|index| {
+        Ok(Sides {
+            library: mean(directory, 2 * index + 1)?,
+            reference: mean(directory, 2 * index + 2)?,
         })
-        .collect()
+    })
+    .collect()
 }
 
 /// The mean over the samples in one file.
@@ -64,15 +82,27 @@ fn mean(directory: &Path, file: usize) -> io::Result<f64> {
         .ok_or_else(|| io::Error::other("a count without a total"))
 }
 
-/// The run under valgrind.
+/// The run under valgrind: all calls, then the reads that tell of lookups.
 pub fn run_all() {
     for mut samples in all_samples() {
         for call in Call::ALL {
-            samples.iter_mut().for_each(|sample| sample.restore(call));
-            counted(library::run(call), &mut samples);
-            counted(reference::run(call), &mut samples);
+            count(call, &mut samples);
         }
     }
+    for mut samples in all_samples() {
+        for asked in Asked::ALL {
+            for sample in &mut samples {
+                sample.asked = asked.number(sample);
+            }
+            count(Call::Read, &mut samples);
+        }
+    }
+}
+
+fn count(call: Call, samples: &mut [Sample]) {
+    samples.iter_mut().for_each(|sample| sample.restore(call));
+    counted(library::run(call), samples);
+    counted(reference::run(call), samples);
 }
 
 /// Under a name that valgrind can be told.

@@ -49,7 +49,7 @@ pub fn cycle(sample: &mut Sample) -> Cycled {
 }
 
 pub fn read(sample: &mut Sample) -> ReadOut {
-    unsafe { rondavitse_read(&sample.lanes.library, sample.visitor.number) }
+    unsafe { rondavitse_read(&sample.lanes.library, sample.asked) }
 }
 
 pub fn lane_text(sample: &mut Sample) -> Listed {

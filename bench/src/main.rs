@@ -6,6 +6,7 @@ mod agreement;
 mod call;
 mod instructions;
 mod library;
+mod lookup;
 mod reference;
 mod sample;
 mod stack;
@@ -43,12 +44,17 @@ fn run(flags: &[&str]) -> io::Result<()> {
 
 fn print_all() -> io::Result<()> {
     let mut samples = all_samples();
-    samples.iter_mut().flatten().for_each(agreement::check);
+    for sample in samples.iter_mut().flatten() {
+        agreement::check(sample);
+        agreement::check_lookups(sample);
+    }
     let instructions = instructions::costs()?;
-    table::print_costs(&instructions, &timing::costs());
+    table::print_costs(&instructions.calls, &timing::costs());
     println!("\nWhat a further carrier adds, in instructions:\n");
-    table::print_growth(&instructions);
+    table::print_growth(&instructions.calls);
     println!("\nThe most that a call takes of the stack:\n");
     table::print_stack(&stack::costs());
+    println!("\nWhat a lookup takes, by two reads that look at more and fewer records, in instructions:\n");
+    lookup::print(&instructions.reads);
     Ok(())
 }

@@ -49,7 +49,7 @@ pub fn cycle(sample: &mut Sample) -> Result<Cycled, Refusal> {
 }
 
 pub fn read(sample: &mut Sample) -> Result<Reading, Refusal> {
-    reference_read(&sample.lanes.reference, sample.visitor.number)
+    reference_read(&sample.lanes.reference, sample.asked)
 }
 
 pub fn lane_text(sample: &mut Sample) -> Result<usize, Refusal> {

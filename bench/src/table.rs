@@ -11,7 +11,14 @@ pub struct Sides {
 }
 
 impl Sides {
-    fn cells(self) -> String {
+    pub fn less(self, other: Sides) -> Sides {
+        Sides {
+            library: self.library - other.library,
+            reference: self.reference - other.reference,
+        }
+    }
+
+    pub fn cells(self) -> String {
         let ratio = self.library / self.reference;
         let (library, reference) = (grouped(self.library), grouped(self.reference));
         format!("{library} | {reference} | {ratio:.2}")

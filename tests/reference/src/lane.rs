@@ -2,12 +2,14 @@
 
 mod calls;
 mod listing;
+mod lookup;
 mod motion;
 mod rules;
 
 pub use crate::carrier::Carrier;
 pub use calls::Supervisor;
 pub use listing::LONGEST_LANE_TEXT;
+pub use lookup::Lookup;
 pub use rules::NUMBERS;
 
 use crate::road::Road;
@@ -93,15 +95,8 @@ impl Supervisor for FastLane {
 }
 
 impl Lane {
-    /// The carriers present, front to back.
+    /// The carriers present, front to back; all records where the count is above.
     pub fn present(&self) -> &[Carrier] {
         &self.carriers[..self.count.min(PLACES as u64) as usize]
-    }
-
-    /// The place of the carrier with `number`, if it is present.
-    pub fn place_of(&self, number: u64) -> Option<usize> {
-        self.present()
-            .iter()
-            .position(|carrier| carrier.number == number)
     }
 }

@@ -25,7 +25,7 @@ pub mod wish;
 
 pub use call::{Answer, Call};
 pub use carrier::Carrier;
-pub use lane::{Cycled, FastLane, Lane, Reading, Supervisor, PLACES};
+pub use lane::{Cycled, FastLane, Lane, Lookup, Reading, Supervisor, PLACES};
 pub use refusal::Refusal;
 pub use road::Road;
 pub use surface::{Row, Table, Tables};

@@ -14,16 +14,14 @@ use lane_reference::{Call, Wish, PLACES};
 /// How many calls were made, and what the last of them did wrong.
 ///
 /// Each call gets the lane that the product left after the one before, but
-/// with other free words: no answer may depend on them.
+/// with other words where no answer may depend on them.
 pub fn run(case: &Case) -> (u64, Result<(), String>) {
     let mut lane = case.first;
     // The road book is for histories, which begin without carriers.
     let first = words::lane(&lane);
     let mut book = (first.count == 0).then(|| Checker::new(&first));
     for (calls, call) in (1..).zip(&case.calls) {
-        if calls > 1 {
-            words::scramble(&mut lane, calls);
-        }
+        unsettle(&mut lane, call, calls);
         let before = lane;
         let outcome = host::outcome(&mut lane, call);
         let wrong = compared(&before, call, &outcome)
@@ -37,6 +35,18 @@ pub fn run(case: &Case) -> (u64, Result<(), String>) {
         }
     }
     (case.calls.len() as u64, Ok(()))
+}
+
+/// Puts anything into the free words and, at every second turn, the number that
+/// the call looks up behind the last carrier present. The first call gets the
+/// lane of its case.
+fn unsettle(lane: &mut Words, call: &HostCall, turn: u64) {
+    if turn > 1 {
+        words::scramble(lane, turn);
+    }
+    if let (Some(number), 0) = (call.number(), turn % 2) {
+        words::leave_behind(lane, number);
+    }
 }
 
 fn compared(before: &Words, call: &HostCall, outcome: &Outcome) -> Result<(), String> {
@@ -85,10 +95,11 @@ pub fn shortened(case: &Case, calls: u64) -> Case {
     let made = &case.calls[..calls as usize];
     let (last, before) = made.split_last().expect("a call that differs");
     let mut reached = case.first;
-    for (next, call) in (2..).zip(before) {
+    for (turn, call) in (1..).zip(before) {
+        unsettle(&mut reached, call, turn);
         host::outcome(&mut reached, call);
-        words::scramble(&mut reached, next);
     }
+    unsettle(&mut reached, last, calls);
     let alone = Case {
         first: reached,
         calls: vec![last.clone()],

@@ -17,6 +17,15 @@ pub enum HostCall {
 }
 
 impl HostCall {
+    /// The number that the call looks up, if any.
+    pub fn number(&self) -> Option<u64> {
+        match *self {
+            HostCall::Plain(Call::Enter(newcomer)) => Some(newcomer.number),
+            HostCall::Plain(Call::Leave { number } | Call::Read { number }) => Some(number),
+            _ => None,
+        }
+    }
+
     /// Whether the call is lent the lane only to be read.
     pub fn only_reads(&self) -> bool {
         matches!(

@@ -12,6 +12,9 @@ const FOR_NEXT_START: usize = 9;
 const FREE: usize = 17;
 const RECORDS: usize = 25;
 
+/// The word of the first row with the carriers present.
+const COUNT: usize = 5;
+
 /// How many words of the first row count, and of a surface row or a record.
 const FIGURES: usize = 6;
 const FIGURES_OF_ROW: usize = 3;
@@ -107,5 +110,14 @@ pub fn scramble(words: &mut Words, seed: u64) {
             let any = random.bits();
             *word = random.pick(&[0, 1, any, any]);
         }
+    }
+}
+
+/// Puts a number into the record right behind the last carrier present, if
+/// there is one: no lookup may go there.
+pub fn leave_behind(words: &mut Words, number: u64) {
+    let present = words[0][COUNT].min(PLACES as u64) as usize;
+    if let Some(idle) = words.get_mut(RECORDS + present) {
+        idle[0] = number;
     }
 }

@@ -46,7 +46,7 @@ pub trait Supervisor {
         let present = lane.present();
         let count = present.len();
         Refusal::LaneFull.when(count == PLACES)?;
-        Refusal::NumberPresent.when(lane.place_of(newcomer.number).is_some())?;
+        Refusal::NumberPresent.when(lane.look_up(newcomer.number).place.is_some())?;
         let place = entry_place(present, newcomer.position);
         let safe = safe_behind::<Self::Stopping>;
         let leader_near = place > 0 && !safe(&row, newcomer, present[place - 1]);
@@ -153,7 +153,8 @@ pub trait Supervisor {
     fn find(&self, number: u64) -> Result<usize, Refusal> {
         self.lane().sound_row::<Self::Stopping>()?;
         Refusal::NumberOutOfRange.when(!NUMBERS.contains(&number))?;
-        self.lane().place_of(number).ok_or(Refusal::NumberAbsent)
+        let found = self.lane().look_up(number);
+        found.place.ok_or(Refusal::NumberAbsent)
     }
 
     /// Runs a call given as a value.

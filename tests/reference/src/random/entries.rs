@@ -4,7 +4,7 @@
 use super::edges::{narrow, nearest_ahead, nearest_behind, row_of};
 use super::Random;
 use crate::carrier::Carrier;
-use crate::lane::Lane;
+use crate::lane::{Lane, NUMBERS};
 
 /// How far an entry is from the nearest safe position: mostly not at all.
 const OFFSETS: [i128; 8] = [0, 0, 0, 0, 1, 1, -1, 2];
@@ -121,19 +121,32 @@ pub fn speed(random: &mut Random, lane: &Lane) -> u64 {
     }
 }
 
-/// The number of a carrier present, or now and then of none.
+/// The number of a carrier present, the foremost and the rearmost above all, or
+/// now and then of none.
 pub fn known_number(random: &mut Random, lane: &Lane) -> u64 {
-    match (neighbour(random, lane, 0), random.below(20)) {
+    let rear = lane.present().len().saturating_sub(1);
+    let usual = random.pick(&[0, rear]);
+    match (neighbour(random, lane, usual), random.below(20)) {
         (_, 0) => 0,
-        (_, 1) | (None, _) => unused_number(random, lane),
+        (_, 1..=2) => unused_number(random, lane),
+        (_, 3..=4) | (None, _) => number_left_behind(random, lane),
         (Some(carrier), _) => carrier.number,
+    }
+}
+
+/// The number in the record right behind the last carrier present, where no
+/// lookup may go; any unused one where that is no carrier's number.
+fn number_left_behind(random: &mut Random, lane: &Lane) -> u64 {
+    match lane.carriers.get(lane.present().len()) {
+        Some(idle) if NUMBERS.contains(&idle.number) => idle.number,
+        _ => unused_number(random, lane),
     }
 }
 
 fn number(random: &mut Random, lane: &Lane) -> u64 {
     match random.below(30) {
         0 => 0,
-        1 => known_number(random, lane),
+        1..=3 => known_number(random, lane),
         _ => unused_number(random, lane),
     }
 }
@@ -145,7 +158,7 @@ fn unused_number(random: &mut Random, lane: &Lane) -> u64 {
             1 => random.below(65_536),
             _ => 1 + random.below(200),
         };
-        if number != 0 && lane.place_of(number).is_none() {
+        if number != 0 && lane.look_up(number).place.is_none() {
             return number;
         }
     }
