@@ -1,5 +1,5 @@
-// The lane's calls: load, start, enter, leave, cycle, read, lane text. A lane is lent and changed in place. `no` is 0 where a call is accepted, else
-// the number of its refusal, with every value zero and every word of the lane as it was.
+// The lane's calls: load, start, enter, leave, cycle, read, lane text; and `find`, by which they look a carrier number up. A lane is lent and changed
+// in place. `no` is 0 where a call is accepted, else the number of its refusal, with every value zero and every word of the lane as it was.
 ghost use mathlib.Core.Path.{_≡_};
 ghost use mathlib.Core.Bool.{false};
 ghost use mathlib.Core.List.{[]};
