@@ -48,14 +48,13 @@ pub fn print(reads: &[Sides]) {
         "| read | carriers | library | reference | ratio | library, a record | reference, a record |"
     );
     println!("|---|---:|---:|---:|---:|---:|---:|");
-    let reads: Vec<&[Sides]> = reads.chunks(Asked::ALL.len()).collect();
-    let rows = || CARRIERS.into_iter().zip(&reads);
-    for (carriers, reads) in rows() {
+    let rows = CARRIERS.into_iter().zip(reads.chunks(Asked::ALL.len()));
+    for (carriers, reads) in rows.clone() {
         let cost = difference(reads, Asked::Absent, Asked::Zero);
         print_row("absent less 0", carriers, carriers, cost);
     }
     // A single carrier is both the first and the last.
-    for (carriers, reads) in rows().filter(|&(carriers, _)| carriers > 1) {
+    for (carriers, reads) in rows.filter(|&(carriers, _)| carriers > 1) {
         let cost = difference(reads, Asked::Last, Asked::First);
         print_row("last less first", carriers, carriers - 1, cost);
     }

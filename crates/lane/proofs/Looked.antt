@@ -1,35 +1,34 @@
 -- The number of records that a lookup says it looked at is the number on which its answer rests.
 use mathlib.Core.Path.{_≡_, refl, sym, ap, _∙_, subst}
-use mathlib.Core.Bool.{Bool, true, false, cond, _||_, true≢false, false≢true}
+use mathlib.Core.Bool.{Bool, true, false, cond, _||_, false≢true}
 use mathlib.Core.List.{List, [], _∷_}
-use Prim.Native.Nat.{ℕ, zero, suc, _+_, _≤_, _<_}
+use Prim.Native.Nat.{ℕ, zero, suc, min, _+_, _≤_, _<_}
+use native.Mathlib.Nat.{zero-min, min-zero, suc-min-suc, min-eq-right, sub-add-min-cancel}
 use native.Mathlib.Omega.{arith}
-use borrow.Author.Tests.{eq-eqb, ne-eqb, lt-ltb, ltb-true, ltb-false}
+use borrow.Author.Tests.{eq-eqb, ne-eqb, ltb-true, ltb-false}
 use lib.Dec.{ltb}
-use lib.ListN.{length, getD, take, set}
+use lib.ListN.{length, getD, take, set, length-set}
 use lib.Seq.{take-all, getD-set-same}
 use Rattle.lane.specs.declared.Carrier.{Carrier}
+use Rattle.lane.specs.declared.lookup.Found.the-variants.{At}
 use Rattle.lane.specs.declared.lookup.Lookup.{Lookup}
 use Rattle.lane.specs.Safety.{anyOf, firstPlace, numbered}
 use Rattle.lane.specs.Lookup.{lookup, RestsOn}
 use Rattle.lane.specs.Calls.{none}
-use Rattle.lane.proofs.lists.Search.{place-any}
-use Rattle.lane.proofs.lists.Lookups.{lookup-found, lookup-absent, found-at, found-nowhere}
+use Rattle.lane.proofs.lists.Lookups.{lookup-found, lookup-absent, found-at}
 
 module _ (f : Carrier → Bool) where
   -- one that passes, put in no later than the first, is then the first
-  put-first : (d : Carrier) → f d ≡ true → (cs : List Carrier) (p : ℕ) → p < length cs → p ≤ firstPlace f cs
-      → (firstPlace f (set cs p d) ≡ p) × (anyOf f (set cs p d) ≡ true)
-  unfolding firstPlace anyOf
+  put-first : (d : Carrier) → f d ≡ true → (cs : List Carrier) (p : ℕ) → p < length cs → p ≤ firstPlace f cs → firstPlace f (set cs p d) ≡ p
+  unfolding firstPlace
   put-first d e [] p h k = absurd (omega arith)
-  put-first d e (c ∷ cs) zero h k = rw e (refl, refl)
+  put-first d e (c ∷ cs) zero h k = rw e refl
   put-first d e (c ∷ cs) (suc p) h k = by-test (f c) k (put-first d e cs p (omega arith))
     where
-      by-test : (t : Bool) → suc p ≤ cond t 0 (suc (firstPlace f cs))
-          → (p ≤ firstPlace f cs → (firstPlace f (set cs p d) ≡ p) × (anyOf f (set cs p d) ≡ true))
-          → (cond t 0 (suc (firstPlace f (set cs p d))) ≡ suc p) × (t || anyOf f (set cs p d) ≡ true)
+      by-test : (t : Bool) → suc p ≤ cond t 0 (suc (firstPlace f cs)) → (p ≤ firstPlace f cs → firstPlace f (set cs p d) ≡ p)
+          → cond t 0 (suc (firstPlace f (set cs p d))) ≡ suc p
       by-test true k h = absurd (omega arith)
-      by-test false k h = let there = h (omega arith) in (ap suc (there .0), there .1)
+      by-test false k h = ap suc (h (omega arith))
 
   -- the first that passes does pass
   first-passes : (cs : List Carrier) → anyOf f cs ≡ true → f (getD cs (firstPlace f cs) none) ≡ true
@@ -42,29 +41,17 @@ module _ (f : Carrier → Bool) where
       by-test true q e h = q
       by-test false q e h = h e
 
-  -- the first that passes is one of so many, and those decide
-  among : (n : ℕ) (cs : List Carrier) → anyOf f cs ≡ true → firstPlace f cs < n → anyOf f (take n cs) ≡ true
-  unfolding firstPlace anyOf
-  among zero cs e h = absurd (omega arith)
-  among (suc n) [] e h = absurd (false≢true e)
-  among (suc n) (c ∷ cs) e h = by-test (f c) e h (among n cs)
+  -- of the first so many it is the first too, unless it stands past them
+  first-taken : (n : ℕ) (cs : List Carrier) → firstPlace f (take n cs) ≡ min n (firstPlace f cs)
+  unfolding firstPlace
+  first-taken zero cs = sym (zero-min _)
+  first-taken (suc n) [] = sym (min-zero (suc n))
+  first-taken (suc n) (c ∷ cs) = by-test (f c) (first-taken n cs)
     where
-      by-test : (t : Bool) → t || anyOf f cs ≡ true → cond t 0 (suc (firstPlace f cs)) < suc n
-          → (anyOf f cs ≡ true → firstPlace f cs < n → anyOf f (take n cs) ≡ true) → t || anyOf f (take n cs) ≡ true
-      by-test true e h k = refl
-      by-test false e h k = k e (omega arith)
-
-  decided : (n : ℕ) (cs : List Carrier) → anyOf f (take n cs) ≡ true → (firstPlace f cs ≡ firstPlace f (take n cs)) × (anyOf f cs ≡ true)
-  unfolding firstPlace anyOf
-  decided zero cs e = absurd (false≢true e)
-  decided (suc n) [] e = absurd (false≢true e)
-  decided (suc n) (c ∷ cs) e = by-test (f c) e (decided n cs)
-    where
-      by-test : (t : Bool) → t || anyOf f (take n cs) ≡ true
-          → (anyOf f (take n cs) ≡ true → (firstPlace f cs ≡ firstPlace f (take n cs)) × (anyOf f cs ≡ true))
-          → (cond t 0 (suc (firstPlace f cs)) ≡ cond t 0 (suc (firstPlace f (take n cs)))) × (t || anyOf f cs ≡ true)
-      by-test true e k = (refl, refl)
-      by-test false e k = let d = k e in (ap suc (d .0), d .1)
+      by-test : (t : Bool) → firstPlace f (take n cs) ≡ min n (firstPlace f cs)
+          → cond t 0 (suc (firstPlace f (take n cs))) ≡ min (suc n) (cond t 0 (suc (firstPlace f cs)))
+      by-test true e = sym (min-zero (suc n))
+      by-test false e = ap suc e ∙ sym (suc-min-suc n _)
 
 module _ (number : ℕ) (cs : List Carrier) where
   abbrev place : ℕ
@@ -80,21 +67,14 @@ module _ (number : ℕ) (cs : List Carrier) where
   abbrev Differs : ℕ → Carrier → Type 0
   Differs p c = ¬ (lookup number (set cs p c) .found ≡ lookup number cs .found)
 
-  -- the number stands nowhere, and might stand at any place of a carrier
-  absent-else : length cs ≤ place → (p : ℕ) → p < length cs → Differs p namesake
-  absent-else h p k e =
-      let there = put-first (numbered number) namesake (eq-eqb number number refl) cs p k (omega arith) in
-      let gone = found-nowhere number (set cs p namesake) _ refl (e ∙ ap (λ (r : Lookup). r .found) (lookup-absent number cs h)) in
-      true≢false (sym (there .1) ∙ gone)
+  -- the number might stand before its place, or at any place where it stands nowhere
+  earlier-else : (p : ℕ) → p < length cs → p < place → Differs p namesake
+  earlier-else p h k e =
+      let there = put-first (numbered number) namesake (eq-eqb number number refl) cs p h (omega arith) in
+      let new = ap (λ (r : Lookup). r .found) (lookup-found number (set cs p namesake) (omega (arith, there, length-set cs p namesake))) ∙ ap At there in
+      omega (arith, k, found-at number cs _ refl p (sym e ∙ new) .1)
 
-  -- it stands at its place, and might stand at an earlier one
-  found-earlier : place < length cs → (p : ℕ) → p < place → Differs p namesake
-  found-earlier h p k e =
-      let there = put-first (numbered number) namesake (eq-eqb number number refl) cs p (omega arith) (omega arith) in
-      let still = found-at number (set cs p namesake) _ refl place (e ∙ ap (λ (r : Lookup). r .found) (lookup-found number cs h)) in
-      omega (arith, k, there .0, still .1)
-
-  -- or another number at its own
+  -- and another number at its own
   found-elsewhere : place < length cs → Differs place stranger
   found-elsewhere h e =
       let still = found-at number (set cs place stranger) _ refl place (e ∙ ap (λ (r : Lookup). r .found) (lookup-found number cs h)) in
@@ -106,7 +86,7 @@ module _ (number : ℕ) (cs : List Carrier) where
   found-else h p k = by-test (ltb p place) refl
     where
       by-test : (t : Bool) → ltb p place ≡ t → (c : Carrier) × Differs p c
-      by-test true e = (namesake, found-earlier h p (ltb-true p place e))
+      by-test true e = (namesake, earlier-else p (omega arith) (ltb-true p place e))
       by-test false e =
           let here : place ≡ p = omega (arith, k, ltb-false p place e) in
           (stranger, subst (λ (q : ℕ). Differs q stranger) here (found-elsewhere h))
@@ -115,9 +95,8 @@ module _ (number : ℕ) (cs : List Carrier) where
   module _ (n : ℕ) (ds : List Carrier) (long : length ds ≡ length cs) (same : take n ds ≡ take n cs) where
     found-alike : place < length cs → place < n → lookup number ds ≡ lookup number cs
     found-alike h k =
-        let here = among (numbered number) n cs (sym (place-any (numbered number) cs) ∙ lt-ltb place (length cs) h) k in
-        let there = decided (numbered number) n ds (ap (anyOf (numbered number)) same ∙ here) in
-        let at : firstPlace (numbered number) ds ≡ place = there .0 ∙ ap (firstPlace (numbered number)) same ∙ sym (decided (numbered number) n cs here .0) in
+        let taken = sym (first-taken (numbered number) n ds) ∙ ap (firstPlace (numbered number)) same ∙ first-taken (numbered number) n cs ∙ min-eq-right (omega arith) in
+        let at : firstPlace (numbered number) ds ≡ place = omega (arith, taken, sub-add-min-cancel n (firstPlace (numbered number) ds), k) in
         lookup-found number ds (omega (arith, at, h, long)) ∙ rw at (sym (lookup-found number cs h))
 
     absent-alike : length cs ≤ n → lookup number ds ≡ lookup number cs
@@ -138,6 +117,6 @@ looked-exact number cs = by-test (ltb (place number cs) (length cs)) refl
         let nowhere = ltb-false (place number cs) (length cs) e in
         let looked : lookup number cs .looked ≡ length cs = ap (λ (r : Lookup). r .looked) (lookup-absent number cs nowhere) in
         record {
-          each = λ p h. (namesake number cs, absent-else number cs nowhere p (omega (arith, h, looked)));
+          each = λ p h. (namesake number cs, earlier-else number cs p (omega (arith, h, looked)) (omega (arith, h, looked, nowhere)));
           others = λ ds long same. absent-alike number cs (lookup number cs .looked) ds long same (omega (arith, looked));
         }

@@ -17,7 +17,7 @@ lookup number cs =
     (record { found = At (firstPlace (numbered number) cs); looked = firstPlace (numbered number) cs + 1 })
     (record { found = Absent; looked = length cs })
 
--- an answer rests on the first so many records: each of them may change what is found by itself, and no other can
+-- an answer rests on the first so many records: each of them, changed by itself, may change what is found, and all others together change nothing
 pub record RestsOn (number : ℕ) (cs : List Carrier) (looked : ℕ) : Type 0 where
   pub each : (p : ℕ) → p < looked → (c : Carrier) × ¬ (lookup number (set cs p c) .found ≡ lookup number cs .found)
   pub others : (ds : List Carrier) → length ds ≡ length cs → take looked ds ≡ take looked cs → lookup number ds ≡ lookup number cs

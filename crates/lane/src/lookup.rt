@@ -1,4 +1,4 @@
-// Where a carrier number stands: the one search for it.
+// Where a carrier number stands: the one lookup, which every call goes through that names a carrier.
 ghost use mathlib.Core.Path.{_≡_};
 ghost use Prim.Native.Nat.{_+_, _<_};
 ghost use lib.ListN.{length, getD};
@@ -51,8 +51,8 @@ pub fn find(l: &Lane, number: u64) -> Lookup
     let count = present(l);
     let mut looked: usize = 0;
     while looked < count {
+        let place = looked;
         if look(l, number, &mut looked) {
-            let place = looked - 1;
             return Lookup {
                 found: Found::At(place),
                 looked,

@@ -272,11 +272,10 @@ fn find_place(l: &Lane, c: Carrier) -> Checked
     if count == MOST_CARRIERS {
         return refused(22);
     }
-    let same = lookup::find(l, c.number);
-    let found = same.found;
-    match found {
-        Found::At(_) => return refused(23),
-        Found::Absent => {}
+    let named = lookup::find(l, c.number);
+    let found = named.found;
+    if let Found::At(_) = found {
+        return refused(23);
     }
     let place = places::entry_place(l, count, c.position);
     let no = gap_refusal(l, rows::row_in(l, road), count, place, c);

@@ -95,7 +95,7 @@ impl Supervisor for FastLane {
 }
 
 impl Lane {
-    /// The carriers present, front to back; all records where the count is above.
+    /// The carriers present, front to back; all 64 records where the count is above 64.
     pub fn present(&self) -> &[Carrier] {
         &self.carriers[..self.count.min(PLACES as u64) as usize]
     }

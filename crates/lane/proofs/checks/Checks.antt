@@ -24,6 +24,7 @@ module _ (l : Words) (f : Figures) (e : f ≡ figuresIn l) where
   unfolding broken
   broken-checks = rw e refl
 
+  -- 23 by the state's carriers, as the lookup has them
   pub place-checks : (c : Carrier) → let cs = take (f .count) (recordsIn l) in
       placeNo (stateOf l) c ≡ cond (eqb (f .count) 64) 22 (cond (anyOf (numbered (c .number)) (stateOf l .carriers)) 23 (gapNo (rowIn (tablesIn l) (f .road)) (walk (c .position) cs) c cs))
   unfolding placeNo

@@ -8,14 +8,14 @@ use lib.ListN.{length, getD, take, length-take, drop-of-length-le}
 use lib.Seq.{slice, slice-cons}
 
 module _ {ℓ} {A : Type ℓ} where
+  -- the first so many of a list are no more than that, and no more than the list has
+  pub take-few : (count : ℕ) (l : List A) → (length (take count l) ≤ count) × (length (take count l) ≤ length l)
+  take-few count l = rw (length-take count l) (min-le-left count (length l), min-le-right count (length l))
+
   -- a loop sees the next element
   pub slice-next : (d : A) (l : List A) (i count : ℕ) → i < count → count ≤ length l
       → slice i count l ≡ getD l i d ∷ slice (i + 1) count l
   slice-next d l i count h k = slice-cons i count l d h k ∙ ap (λ (n : ℕ). getD l i d ∷ slice n count l) (sym (add-one i))
-
-  -- the first so many of a list are no more than that, and no more than the list has
-  pub take-few : (count : ℕ) (l : List A) → (length (take count l) ≤ count) × (length (take count l) ≤ length l)
-  take-few count l = rw (length-take count l) (min-le-left count (length l), min-le-right count (length l))
 
   -- and at the end there is none
   pub slice-past : (l : List A) (i count : ℕ) → count ≤ i → slice i count l ≡ []

@@ -2,7 +2,7 @@
 use mathlib.Core.Path.{_≡_, refl, sym, ap, _∙_}
 use mathlib.Core.Bool.{Bool, true, false, cond, true≢false, false≢true}
 use mathlib.Core.List.{List}
-use Prim.Native.Nat.{ℕ, _+_, _-_, _≤_, _<_}
+use Prim.Native.Nat.{ℕ, _+_, _≤_, _<_}
 use native.Mathlib.Omega.{arith}
 use borrow.Author.Tests.{lt-ltb, le-ltb, ltb-true}
 use lib.ListN.{length, getD}
@@ -43,12 +43,10 @@ module _ (number : ℕ) (cs : List Carrier) where
   -- a search that has looked at i records has not passed the place
   module _ (i : ℕ) (here : place ≡ i + firstPlace (numbered number) (slice i (length cs) cs)) where
     pub ends-found : i < length cs → numbered number (getD cs i none) ≡ true → (n : ℕ) → n ≡ i + 1
-        → record { found = At (n - 1); looked = n } ≡ lookup number cs
+        → record { found = At i; looked = n } ≡ lookup number cs
     ends-found h e n k =
         let p : i ≡ place = place-found (numbered number) cs (length cs) i place here (getD cs i none) refl h (omega arith) e in
-        let before : n - 1 ≡ place = omega (arith, k, p) in
-        let all : n ≡ place + 1 = omega (arith, k, p) in
-        rw (before, all) (sym (lookup-found (omega (arith, h, p))))
+        rw (k, p) (sym (lookup-found (omega (arith, h, p))))
 
     pub goes-on : i < length cs → numbered number (getD cs i none) ≡ false → (n : ℕ) → n ≡ i + 1
         → place ≡ n + firstPlace (numbered number) (slice n (length cs) cs)

@@ -61,7 +61,7 @@ pub trait Supervisor {
 
     /// Takes a carrier out.
     fn leave(&mut self, number: u64) -> Result<(), Refusal> {
-        let place = self.find(number)?;
+        let place = self.place_of(number)?;
         let lane = self.lane_mut();
         let count = lane.present().len();
         lane.carriers.copy_within(place + 1..count, place);
@@ -105,7 +105,7 @@ pub trait Supervisor {
 
     /// Where a carrier is and how fast.
     fn read(&self, number: u64) -> Result<Reading, Refusal> {
-        let carrier = self.lane().carriers[self.find(number)?];
+        let carrier = self.lane().carriers[self.place_of(number)?];
         // Both are below 2^32 and divided by a power of two: nothing is lost.
         Ok(Reading {
             position: f64::from(carrier.position as u32) / 2048.0,
@@ -150,7 +150,7 @@ pub trait Supervisor {
     }
 
     /// The place of a carrier, with the checks that leave and read share.
-    fn find(&self, number: u64) -> Result<usize, Refusal> {
+    fn place_of(&self, number: u64) -> Result<usize, Refusal> {
         self.lane().sound_row::<Self::Stopping>()?;
         Refusal::NumberOutOfRange.when(!NUMBERS.contains(&number))?;
         let found = self.lane().look_up(number);

@@ -30,7 +30,7 @@ loop-holds c =
     let cs = stateOf (c .before .args .l .now) .carriers in
     (omega arith, rw (take-length cs) (sym (zero-add _)))
 
--- the next record is that of a carrier, and none before it has the number
+-- the loop counts up to the carriers present, and has not passed the place
 module _ (at : tie.At-loop Inv-loop μ-loop) where
   abbrev number : ℕ
   number = at .before .before .args .number
@@ -49,32 +49,30 @@ look-requires c κs =
     let at = c .before .before in
     looks-at (number at) (cs at) (at .loop .looked) (omega (arith, counted at)) (not-past at)
 
-sub-place : tie.Need-sub-place Inv-loop μ-loop
-sub-place c = omega (arith, c .before .look .ensures .1)
-
 -- what `look` tells of the record at the loop's place
 module _ (c : tie.After-look Inv-loop μ-loop) where
-  abbrev at : tie.At-loop Inv-loop μ-loop
-  at = c .before .before .before
+  abbrev turn : tie.At-loop Inv-loop μ-loop
+  turn = c .before .before .before
 
-  next : c .look .last .1 .1 .0 ≡ at .loop .looked + 1
+  -- the count after the call
+  next : c .look .last .1 .1 .0 ≡ turn .loop .looked + 1
   next = c .look .ensures .1
 
-  in-reach : at .loop .looked < length (cs at)
-  in-reach = omega (arith, counted at)
+  in-reach : turn .loop .looked < length (cs turn)
+  in-reach = omega (arith, counted turn)
 
 returns : tie.Need-returns Inv-loop μ-loop
 returns c =
-    let at = at (c .before) in
+    let at = turn (c .before) in
     ends-found (number at) (cs at) (at .loop .looked) (at .loop .inv .1) (in-reach (c .before))
     (sym (c .before .look .ensures .0) ∙ c .if1 .taken) _ (next (c .before))
 
 loop-less : tie.Need-loop-less Inv-loop μ-loop
-loop-less c = omega (arith, next (c .before), counted (at (c .before)))
+loop-less c = omega (arith, next (c .before), counted (turn (c .before)))
 
 loop-again : tie.Need-loop-again Inv-loop μ-loop
 loop-again c =
-    let at = at (c .before) in (
+    let at = turn (c .before) in (
       omega (arith, next (c .before), in-reach (c .before)),
       goes-on (number at) (cs at) (at .loop .looked) (at .loop .inv .1) (in-reach (c .before))
           (sym (c .before .look .ensures .0) ∙ c .if1 .left) _ (next (c .before)),
@@ -84,4 +82,4 @@ returns-2 : tie.Need-returns-2 Inv-loop μ-loop
 returns-2 c = let at = c .before in ends-absent (number at) (cs at) (at .loop .looked) (at .loop .inv .1) (omega (arith, counted at, at .loop .inv .0))
 
 pub find-spec : {M : Type 1} → statement M
-find-spec = tie.close (tie.spec Inv-loop μ-loop present-requires loop-holds look-requires sub-place returns loop-less loop-again returns-2)
+find-spec = tie.close (tie.spec Inv-loop μ-loop present-requires loop-holds look-requires returns loop-less loop-again returns-2)

@@ -1,0 +1,68 @@
+/* That a call which looks a number up looks at no record past the last carrier present: those records are on pages that cannot be read, so
+ * that one look further ends this program. */
+#define _DEFAULT_SOURCE /* mmap's MAP_ANONYMOUS */
+#include "compare.h"
+
+#include <stddef.h>
+#include <string.h>
+#include <sys/mman.h>
+#include <unistd.h>
+
+enum { MOST = RONDAVITSE_MOST_CARRIERS, APART = 10 };
+
+/* Where the pages that can be written and read end, and those begin that cannot. */
+static uint8_t *boundary;
+
+static void map_pages(void) {
+    const size_t page = (size_t)sysconf(_SC_PAGESIZE);
+    const size_t half = (sizeof(rondavitse_lane) / page + 1) * page;
+    void *pages = mmap(NULL, 2 * half, PROT_NONE, MAP_PRIVATE | MAP_ANONYMOUS, -1, 0);
+    if (pages == MAP_FAILED || mprotect(pages, half, PROT_READ | PROT_WRITE) != 0) {
+        perror("idle_records");
+        exit(EXIT_FAILURE);
+    }
+    boundary = (uint8_t *)pages + half;
+}
+
+/* Carriers 1 to `count` at rest, front to back. */
+static rondavitse_lane standing(size_t count) {
+    const rondavitse_road road = {.surface = 0, .end = 1 << 20, .limit = 1};
+    rondavitse_lane lane;
+    rondavitse_empty(&lane);
+    same("start", "no", rondavitse_start(&lane, road, 0), RONDAVITSE_ACCEPTED);
+    for (size_t place = 0; place < count; place++) {
+        const rondavitse_carrier carrier = {.number = place + 1, .position = (MOST - place) * APART, .speed = 0};
+        same("enter", "no", rondavitse_enter(&lane, carrier).no, RONDAVITSE_ACCEPTED);
+    }
+    return lane;
+}
+
+/* The lane up to its last carrier at the boundary: no idle record can be read. */
+static rondavitse_lane *put_at_boundary(const rondavitse_lane *lane) {
+    const size_t length = offsetof(rondavitse_lane, records) + lane->count * sizeof lane->records[0];
+    return memcpy(boundary - length, lane, length);
+}
+
+static void check_lookups(size_t count) {
+    const rondavitse_lane kept = standing(count);
+    rondavitse_lane *lane = put_at_boundary(&kept);
+    same("read", "no", rondavitse_read(lane, count + 1).no, RONDAVITSE_NUMBER_ABSENT);
+    same("leave", "no", rondavitse_leave(lane, count + 1), RONDAVITSE_NUMBER_ABSENT);
+    for (uint64_t number = 1; number <= count; number++) {
+        const rondavitse_carrier twin = {.number = number, .position = 0, .speed = 0};
+        same("read", "no", rondavitse_read(lane, number).no, RONDAVITSE_ACCEPTED);
+        if (count < MOST) {
+            same("enter", "no", rondavitse_enter(lane, twin).no, RONDAVITSE_NUMBER_PRESENT);
+        }
+        same("leave", "no", rondavitse_leave(lane, number), RONDAVITSE_ACCEPTED);
+        lane = put_at_boundary(&kept);
+    }
+}
+
+int main(void) {
+    map_pages();
+    for (size_t count = 0; count <= MOST; count++) {
+        check_lookups(count);
+    }
+    return verdict();
+}
