@@ -2,27 +2,15 @@
  * that one look further ends this program. */
 #define _DEFAULT_SOURCE /* mmap's MAP_ANONYMOUS */
 #include "compare.h"
+#include "pages.h"
 
 #include <stddef.h>
 #include <string.h>
-#include <sys/mman.h>
-#include <unistd.h>
 
 enum { MOST = RONDAVITSE_MOST_CARRIERS, APART = 10 };
 
 /* Where the pages that can be written and read end, and those begin that cannot. */
 static uint8_t *boundary;
-
-static void map_pages(void) {
-    const size_t page = (size_t)sysconf(_SC_PAGESIZE);
-    const size_t half = (sizeof(rondavitse_lane) / page + 1) * page;
-    void *pages = mmap(NULL, 2 * half, PROT_NONE, MAP_PRIVATE | MAP_ANONYMOUS, -1, 0);
-    if (pages == MAP_FAILED || mprotect(pages, half, PROT_READ | PROT_WRITE) != 0) {
-        perror("idle_records");
-        exit(EXIT_FAILURE);
-    }
-    boundary = (uint8_t *)pages + half;
-}
 
 /* Carriers 1 to `count` at rest, front to back. */
 static rondavitse_lane standing(size_t count) {
@@ -60,7 +48,7 @@ static void check_lookups(size_t count) {
 }
 
 int main(void) {
-    map_pages();
+    boundary = boundary_of(sizeof(rondavitse_lane), sizeof(rondavitse_lane));
     for (size_t count = 0; count <= MOST; count++) {
         check_lookups(count);
     }

@@ -2,31 +2,19 @@
  * text's end: the bytes after them are on pages that cannot be read, so that one look further ends this program. */
 #define _DEFAULT_SOURCE /* mmap's MAP_ANONYMOUS */
 #include "compare.h"
+#include "pages.h"
 #include "table.h"
 
 #include <string.h>
-#include <sys/mman.h>
-#include <unistd.h>
 
-enum { LONGEST_LINE = 64, UNREADABLE = 64 << 20 };
+enum { LONGEST_LINE = 64, READABLE = 4096, UNREADABLE = 64 << 20 };
 
+/* Of it READABLE bytes can be written and read, and UNREADABLE after them cannot. */
 static uint8_t *page;
-static size_t page_size;
-
-/* One page that can be written and read, and many after it that cannot. */
-static void map_pages(void) {
-    page_size = (size_t)sysconf(_SC_PAGESIZE);
-    void *pages = mmap(NULL, page_size + UNREADABLE, PROT_NONE, MAP_PRIVATE | MAP_ANONYMOUS, -1, 0);
-    if (pages == MAP_FAILED || mprotect(pages, page_size, PROT_READ | PROT_WRITE) != 0) {
-        perror("long_lines");
-        exit(EXIT_FAILURE);
-    }
-    page = pages;
-}
 
 /* Puts a text at the page's end and gives its place. */
 static size_t put_at_end(const char *text, size_t length) {
-    const size_t at = page_size - length;
+    const size_t at = READABLE - length;
     memcpy(page + at, text, length);
     return at;
 }
@@ -44,7 +32,7 @@ static void expect_malformed_block(const char *text, size_t length) {
     rondavitse_lane lane = any_lane();
     const rondavitse_lane kept = lane;
     const size_t at = put_at_end(text, length);
-    const rondavitse_stepped got = rondavitse_step(&lane, page, page_size + UNREADABLE, at, out, sizeof out);
+    const rondavitse_stepped got = rondavitse_step(&lane, page, READABLE + UNREADABLE, at, out, sizeof out);
     same(text, "no", got.no, RONDAVITSE_ACCEPTED);
     same(text, "next", got.next, at);
     same(text, "stop", got.stop, 1);
@@ -115,7 +103,7 @@ static void check_tables(void) {
 }
 
 int main(void) {
-    map_pages();
+    page = boundary_of(READABLE, UNREADABLE) - READABLE;
     check_blocks();
     check_tables();
     return verdict();
