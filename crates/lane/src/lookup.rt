@@ -1,4 +1,4 @@
-// Where a carrier number stands: the one lookup, which every call goes through that names a carrier.
+// Where a carrier number stands: the one lookup, which every call goes through that is given a number.
 ghost use mathlib.Core.Path.{_≡_};
 ghost use Prim.Native.Nat.{_+_, _<_};
 ghost use lib.ListN.{length, getD};

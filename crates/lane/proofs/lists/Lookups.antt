@@ -57,7 +57,7 @@ module _ (number : ℕ) (cs : List Carrier) where
         let p : i ≡ place = place-past (numbered number) cs (length cs) i place here (omega arith) in
         rw k (sym (lookup-absent (omega (arith, k, p))))
 
-  -- a record that stands no later than the place looked for is looked at, and none past the last carrier is
+  -- a carrier's record no further back than the place is looked at, and none past the last carrier is
   pub looks-at : (i : ℕ) → i < length cs → i ≤ place → i < lookup number cs .looked
   unfolding lookup
   looks-at i h k = by-test (anyOf (numbered number) cs)
@@ -70,8 +70,7 @@ module _ (number : ℕ) (cs : List Carrier) where
   unfolding lookup
   looked-few = by-test (anyOf (numbered number) cs) refl
     where
-      by-test : (t : Bool) → anyOf (numbered number) cs ≡ t
-          → answer t .looked ≤ length cs
+      by-test : (t : Bool) → anyOf (numbered number) cs ≡ t → answer t .looked ≤ length cs
       by-test true e = omega (arith, ltb-true place (length cs) (place-any (numbered number) cs ∙ e))
       by-test false e = omega arith
 
@@ -84,15 +83,13 @@ module _ (number : ℕ) (cs : List Carrier) where
     pub found-at : (p : ℕ) → r .found ≡ At p → (anyOf (numbered number) cs ≡ true) × (p ≡ place)
     found-at p e = by-test (anyOf (numbered number) cs) (given (At p) e)
       where
-        by-test : (t : Bool) → answer t .found ≡ At p
-            → (t ≡ true) × (p ≡ place)
+        by-test : (t : Bool) → answer t .found ≡ At p → (t ≡ true) × (p ≡ place)
         by-test true e = (refl, ap placeIn (sym e))
         by-test false e = absurd (false≢true (ap isAt e))
 
     pub found-nowhere : r .found ≡ Absent → anyOf (numbered number) cs ≡ false
     found-nowhere e = by-test (anyOf (numbered number) cs) (given Absent e)
       where
-        by-test : (t : Bool) → answer t .found ≡ Absent
-            → t ≡ false
+        by-test : (t : Bool) → answer t .found ≡ Absent → t ≡ false
         by-test true e = absurd (true≢false (ap isAt e))
         by-test false e = refl
