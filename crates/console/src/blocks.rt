@@ -54,15 +54,17 @@ fn enter_block(l: &mut Lane, input: &[u8], at: usize, first: usize, out: &mut [u
     let car = text::read_field(input, first, &lane::CAR, BITS16);
     let position = text::read_field(input, car.next, &lane::AT, BITS32);
     let speed = text::read_field(input, position.next, &lane::SPEED, BITS32);
-    if !(car.ok & position.ok & speed.ok) {
+    let length = text::read_field(input, speed.next, &lane::LENGTH, BITS32);
+    if !(car.ok & position.ok & speed.ok & length.ok) {
         return refused(at, 8, true, out);
     }
     let c = Carrier {
         number: car.value,
         position: position.value,
         speed: speed.value,
+        length: length.value,
     };
-    run_enter(l, c, speed.next, out)
+    run_enter(l, c, length.next, out)
 }
 
 fn leave_block(l: &mut Lane, input: &[u8], at: usize, first: usize, out: &mut [u8]) -> Stepped

@@ -150,7 +150,12 @@ pub safe-by-rests : (b B p v pL vL : ℕ) → 1 ≤ b → 1 ≤ B → safeBehind
 unfolding safeBehind
 safe-by-rests b B p v pL vL hb hB = rw (← rest-is b p v (λ z. omega arith), ← rest-is B pL vL (λ z. omega arith)) refl
 
--- what lets a carrier leave from the middle, whose rate is c and whose length m; l is the length of the one ahead of it
+-- a position moved by m moves the rest
+pub rest-moved : (c p m v : ℕ) → 1 ≤ c → restOf c (p + m) v ≡ restOf c p v + m
+rest-moved c p m v hc = rw (← rest-is c (p + m) v (λ z. omega arith), ← rest-is c p v (λ z. omega arith)) (omega arith)
+
+-- what lets a carrier leave from the middle, whose rate is c and whose length m; l is the length of the one ahead of it: who was behind its tail is
+-- behind that one's
 pub safe-trans : (b c B p v m q w l pL vL : ℕ) → c ≤ B
     → safeBehind b B (p + m) v q w ≡ true → safeBehind c B (q + l) w pL vL ≡ true → safeBehind b B (p + l) v pL vL ≡ true
 safe-trans b c B p v m q w l pL vL hB e f =
@@ -158,12 +163,6 @@ safe-trans b c B p v m q w l pL vL hB e f =
     let y = safe-says c B (q + l) w pL vL f in
     let stops = S.mono {c = B} {d = c} {v = w} {w = w} hB (omega arith) in
     safe-holds b B (p + l) v pL vL (record { below = omega arith; stops-below = omega arith })
-
--- the same of points
-pub points-trans : (b c B p v q w pL vL : ℕ) → c ≤ B
-    → safeBehind b B p v q w ≡ true → safeBehind c B q w pL vL ≡ true → safeBehind b B p v pL vL ≡ true
-points-trans b c B p v q w pL vL hB e f =
-    rw (add-zero p) at (safe-trans b c B p v 0 q w 0 pL vL hB (rw (add-zero p) e) (rw (add-zero q) f))
 
 -- ---- one cycle of a safe pair: the follower drives w, the one ahead a
 

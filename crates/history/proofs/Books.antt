@@ -2,7 +2,7 @@
 use mathlib.Core.Path.{_≡_, refl, ap}
 use mathlib.Core.Bool.{Bool, true, false, cond}
 use mathlib.Core.List.{List, [], _∷_}
-use Prim.Native.Nat.{ℕ, zero, suc, _/_, _%_, _^_, _≤_, _<_, min}
+use Prim.Native.Nat.{ℕ, zero, suc, _+_, _/_, _%_, _^_, _≤_, _<_, min}
 use native.Mathlib.Nat.{pow-suc, div-one, div-div-eq-div-mul, mul-comm}
 use native.Mathlib.Omega.{arith}
 use borrow.Author.Tests.{lt-leb, le-leb}
@@ -99,5 +99,5 @@ pub driven-on : {end : ℕ} {cs ds : List Carrier} {accs : List ℤ} → Drove e
 unfolding drivenOn
 driven-on nobody-drives = refl
 driven-on {end} (stays-on {c = c} {a = a} h d) =
-    rw (lt-leb end (positionAfter (c .position) (c .speed) a) h, driven-on d) refl
-driven-on {end} (is-gone {c = c} {a = a} h d) = rw (le-leb end (positionAfter (c .position) (c .speed) a) h) (driven-on d)
+    rw (lt-leb (end + c .length) (positionAfter (c .position) (c .speed) a) h, driven-on d) refl
+driven-on {end} (is-gone {c = c} {a = a} h d) = rw (le-leb (end + c .length) (positionAfter (c .position) (c .speed) a) h) (driven-on d)

@@ -2,24 +2,24 @@
 use mathlib.Core.Path.{_≡_, refl, sym, ap, _∙_, subst}
 use mathlib.Core.Bool.{Bool, true, false, not, _&&_, _||_, true≢false}
 use mathlib.Core.List.{List, [], _∷_, _++_}
-use Prim.Native.Nat.{ℕ, suc, _-_, _*_, _/_, _%_, _^_, _≤_, _<_}
+use Prim.Native.Nat.{ℕ, suc, _+_, _-_, _*_, _/_, _%_, _^_, _≤_, _<_}
 use native.Mathlib.Nat.{div-one}
 use native.Mathlib.Omega.{arith}
 use borrow.Author.Tests.{lt-ltb, le-ltb, ltb-true, ltb-false}
-use lib.Dec.{eqb, ltb, ltb→lt}
+use lib.Dec.{eqb, ltb, ltb→lt, lt→ltb}
 use lib.ListN.{length, getD}
 use lib.IntN.{ℤ, pos, _+ℤ_, _*ℤ_}
 use lib.Signed.{_<ℤ_, <ℤ-irrefl}
 use Rattle.headway.specs.Motion.{positionAfter}
 use Rattle.headway.specs.Wishes.{restsBehind}
-use Rattle.headway.proofs.Laws.{fraction-form, fraction-at-start, fraction-at-end}
+use Rattle.headway.proofs.Laws.{fraction-form, fraction-at-start, fraction-at-end, fraction-not-negative}
 use Rattle.wish.specs.declared.Wish.{Wish}
 use Rattle.wish.specs.declared.Wish.the-variants.{Hold}
 use Rattle.lane.specs.declared.Carrier.{Carrier}
 use Rattle.lane.specs.declared.Road.{Road}
 use Rattle.lane.specs.Surface.{rowIn}
 use Rattle.lane.specs.Layout.{Words, stateOf}
-use Rattle.lane.specs.Safety.{guaranteedRate, reachTo}
+use Rattle.lane.specs.Safety.{guaranteedRate}
 use Rattle.lane.specs.Calls.{none}
 use Rattle.lane.specs.Call.{Call, start-call, cycle-call, read-call, Answer, callNo, Kept}
 use Rattle.lane.proofs.CallLaws.{answer-number, kept-not-21}
@@ -50,6 +50,7 @@ pub record SameCarrier (c d : Carrier) : Type 0 where
   pub number : c .number ≡ d .number
   pub position : c .position ≡ d .position
   pub speed : c .speed ≡ d .speed
+  pub length : c .length ≡ d .length
 
 pub as-many : (after : Words) (s : Seen) (b : Book) → Claims after s b → length (stateOf after .carriers) ≡ length (booked s b .carriers)
 as-many after s b c = ap length (c .carriers)
@@ -66,6 +67,7 @@ at-each-place after s b c i =
       number = ap (λ (cs : List Carrier). getD cs i none .number) (c .carriers);
       position = ap (λ (cs : List Carrier). getD cs i none .position) (c .carriers);
       speed = ap (λ (cs : List Carrier). getD cs i none .speed) (c .carriers);
+      length = ap (λ (cs : List Carrier). getD cs i none .length) (c .carriers);
     }
 
 -- no two carriers of the book are level
@@ -77,10 +79,15 @@ apart-after after s b c i j d p q e = by-order (ltb i j) refl
     by-order true h = omega (arith, e, c .order i j (ltb-true i j h) q)
     by-order false h = omega (arith, e, c .order j i (omega (arith, d, ltb-false i j h)) p)
 
--- on the lane itself each carrier is below every one ahead
+-- on the lane itself each front is below the tail of every carrier ahead,
 pub below-after : (after : Words) (s : Seen) (b : Book) → Claims after s b → (i j : ℕ) → i < j → j < length (stateOf after .carriers)
-    → getD (stateOf after .carriers) j none .position < getD (stateOf after .carriers) i none .position
+    → getD (stateOf after .carriers) j none .position + getD (stateOf after .carriers) i none .length < getD (stateOf after .carriers) i none .position
 below-after after s b c i j p q = rw (c .carriers) (c .order i j p (rw (c .carriers) at q))
+
+-- and so below its front
+pub fronts-after : (after : Words) (s : Seen) (b : Book) → Claims after s b → (i j : ℕ) → i < j → j < length (stateOf after .carriers)
+    → getD (stateOf after .carriers) j none .position < getD (stateOf after .carriers) i none .position
+fronts-after after s b c i j p q = omega (arith, below-after after s b c i j p q)
 
 -- ---- in a cycle run
 
@@ -88,8 +95,21 @@ below-after after s b c i j p q = rw (c .carriers) (c .order i j p (rw (c .carri
 abbrev pub endOf : Book → (word : ℕ) → List Wish → (i : ℕ) → ℕ
 endOf b word ws i = positionAfter (carrierAt b i .position) (carrierAt b i .speed) (getD (drivenIn b word (b .carriers) ws) i (pos 0))
 
-pos-below : {x y : ℕ} → pos (1 * 1 * x) <ℤ pos (1 * 1 * y) → x < y
-pos-below {x} {y} h = let k = ltb→lt (1 * 1 * x) (1 * 1 * y) (h .lt) in omega arith
+pos-below : (x m y : ℕ) → (pos (1 * 1 * x) +ℤ pos (1 * 1 * m)) <ℤ pos (1 * 1 * y) → x + m < y
+pos-below x m y h = let k = ltb→lt (1 * 1 * x + 1 * 1 * m) (1 * 1 * y) (h .lt) in omega arith
+
+-- in a cycle run each front is below the front of every carrier ahead at every fraction
+pub fronts-within : (after : Words) (count word : ℕ) (ws : List Wish) (b : Book)
+    → Claims after (record { call = cycle-call count ws; refused = false; word = word }) b
+    → (n k i j : ℕ) → 1 ≤ n → k ≤ n → i < j → j < length (b .carriers) → placeAt b word ws n k j <ℤ placeAt b word ws n k i
+fronts-within after count word ws b c n k i j hn hk p q =
+    let tails : pos (place j .0 + n * n * carrierAt b i .length) <ℤ pos (place i .0) = rw (place j .1, place i .1) at (c .cycle-run .0 n k i j hn hk p q) in
+    let below = ltb→lt (place j .0 + n * n * carrierAt b i .length) (place i .0) (tails .lt) in
+    rw (place j .1, place i .1) (record { lt = lt→ltb (place j .0) (place i .0) (omega arith) })
+  where
+    -- no place is negative
+    place : (m : ℕ) → (x : ℕ) × (placeAt b word ws n k m ≡ pos x)
+    place m = fraction-not-negative n k (carrierAt b m .position) (carrierAt b m .speed) _ hk (driven-at-least b word (b .carriers) ws m)
 
 -- no two are level at any fraction
 pub apart-within : (after : Words) (count word : ℕ) (ws : List Wish) (b : Book)
@@ -98,8 +118,8 @@ pub apart-within : (after : Words) (count word : ℕ) (ws : List Wish) (b : Book
 apart-within after count word ws b c n k i j hn hk d p q e = by-order (ltb i j) refl
   where
     by-order : (t : Bool) → ltb i j ≡ t → ⊥
-    by-order true h = <ℤ-irrefl (rw e at (c .cycle-run .0 n k i j hn hk (ltb-true i j h) q))
-    by-order false h = <ℤ-irrefl (rw (sym e) at (c .cycle-run .0 n k j i hn hk (omega (arith, d, ltb-false i j h)) p))
+    by-order true h = <ℤ-irrefl (rw e at (fronts-within after count word ws b c n k i j hn hk (ltb-true i j h) q))
+    by-order false h = <ℤ-irrefl (rw (sym e) at (fronts-within after count word ws b c n k j i hn hk (omega (arith, d, ltb-false i j h)) p))
 
 module _ (after : Words) (count word : ℕ) (ws : List Wish) (b : Book)
     (c : Claims after (record { call = cycle-call count ws; refused = false; word = word }) b) where
@@ -108,9 +128,9 @@ module _ (after : Words) (count word : ℕ) (ws : List Wish) (b : Book)
   driven i = getD (drivenIn b word (b .carriers) ws) i (pos 0)
 
   module _ (i j : ℕ) (p : i < j) (q : j < length (b .carriers)) where
-    -- at every fraction each is below every one ahead, in the document's own form: "n² times the position is n²p + 2vkn + ak²"
+    -- at every fraction each is below the tail of every one ahead, in the document's own form: "n² times the position is n²p + 2vkn + ak²"
     pub below-within : (n k : ℕ) → 1 ≤ n → k ≤ n
-        → (pos (n * n * carrierAt b j .position) +ℤ pos (2 * carrierAt b j .speed * k * n) +ℤ driven j *ℤ pos (k * k))
+        → (pos (n * n * carrierAt b j .position) +ℤ pos (2 * carrierAt b j .speed * k * n) +ℤ driven j *ℤ pos (k * k) +ℤ pos (n * n * carrierAt b i .length))
         <ℤ (pos (n * n * carrierAt b i .position) +ℤ pos (2 * carrierAt b i .speed * k * n) +ℤ driven i *ℤ pos (k * k))
     below-within n k hn hk =
         rw (
@@ -119,13 +139,14 @@ module _ (after : Words) (count word : ℕ) (ws : List Wish) (b : Book)
         ) at (c .cycle-run .0 n k i j hn hk p q)
 
     -- so at its start and at its end, where those are who are gone after it too, in the very positions
-    pub apart-at-start : carrierAt b j .position < carrierAt b i .position
+    pub apart-at-start : carrierAt b j .position + carrierAt b i .length < carrierAt b i .position
     apart-at-start =
-        pos-below (rw (fraction-at-start 1 (carrierAt b j .position), fraction-at-start 1 (carrierAt b i .position)) at (c .cycle-run .0 1 0 i j (omega arith) (omega arith) p q))
+        pos-below (carrierAt b j .position) (carrierAt b i .length) (carrierAt b i .position)
+        (rw (fraction-at-start 1 (carrierAt b j .position), fraction-at-start 1 (carrierAt b i .position)) at (c .cycle-run .0 1 0 i j (omega arith) (omega arith) p q))
 
-    pub apart-at-end : endOf b word ws j < endOf b word ws i
+    pub apart-at-end : endOf b word ws j + carrierAt b i .length < endOf b word ws i
     apart-at-end =
-        pos-below
+        pos-below (endOf b word ws j) (carrierAt b i .length) (endOf b word ws i)
         (rw (
           fraction-at-end 1 _ _ _ (driven-at-least b word (b .carriers) ws j),
           fraction-at-end 1 _ _ _ (driven-at-least b word (b .carriers) ws i),
@@ -138,7 +159,7 @@ module _ (after : Words) (count word : ℕ) (ws : List Wish) (b : Book)
 
   pub replaced-exactly : (i : ℕ) → 0 < i → i < length (b .carriers)
       → eqb (word / 2 ^ i % 2) 1
-      ≡ not (restsBehind (guaranteedRate (rowIn (b .tables) (b .road)) (carrierAt b i)) (rowIn (b .tables) (b .road) .hardest) (reachTo (carrierAt b (i - 1)) (carrierAt b i)) (carrierAt b i .speed) (trimmedIn b (carrierAt b i) (getD ws i Hold)) (carrierAt b (i - 1) .position) (carrierAt b (i - 1) .speed))
+      ≡ not (restsBehind (guaranteedRate (rowIn (b .tables) (b .road)) (carrierAt b i)) (rowIn (b .tables) (b .road) .hardest) (carrierAt b i .position + carrierAt b (i - 1) .length) (carrierAt b i .speed) (trimmedIn b (carrierAt b i) (getD ws i Hold)) (carrierAt b (i - 1) .position) (carrierAt b (i - 1) .speed))
   unfolding restsLevelOrCrossed
   replaced-exactly i p q = c .cycle-run .1 i ∙ rw (lt-ltb 0 i p, lt-ltb i (length (b .carriers)) q) refl
 

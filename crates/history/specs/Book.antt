@@ -1,5 +1,5 @@
 -- Document 01, "The road book": "It says where carriers that drive as told are." It has a walk, a trimming and a motion of its own.
-use Prim.Native.Nat.{ℕ, _/_, _%_}
+use Prim.Native.Nat.{ℕ, _+_, _/_, _%_}
 use mathlib.Core.Bool.{Bool, cond}
 use mathlib.Core.List.{List, [], _∷_}
 use lib.Dec.{eqb, leb, ltb}
@@ -26,7 +26,7 @@ pub record Seen : Type 0 where
   pub word : ℕ
 
 -- "It holds surface, end, limit and the carriers front to back, each with number, position and speed."; document 02, T-01: "The road book holds
--- the rows in force and those for the next start too"
+-- the rows in force and those for the next start too"; T-03: each with its length, which "Each entry gains"
 pub record Book : Type 0 where
   pub road : Road
   pub tables : Tables
@@ -74,14 +74,14 @@ drivenIn b word (c ∷ cs) (w ∷ ws) =
     cond (eqb (word % 2) 1) (braking (guaranteedRate (rowIn (b .tables) (b .road)) c) (c .speed)) (trimmedIn b c w)
     ∷ drivenIn b (word / 2) cs ws
 
--- "Cycle: carrier i drives"; "After the whole cycle, whoever is at or past the end comes out."
+-- "Cycle: carrier i drives"; "After the whole cycle, whoever is at or past the end comes out."; T-03: "gone once its tail is at or past the end"
 unfoldable pub drivenOn : (end : ℕ) → List Carrier → List ℤ → List Carrier
 drivenOn end [] ds = []
 drivenOn end (c ∷ cs) [] = []
 drivenOn end (c ∷ cs) (d ∷ ds) =
     let position = positionAfter (c .position) (c .speed) d in
-    cond (leb end position) (drivenOn end cs ds)
-    (record { number = c .number; position = position; speed = speedAfter (c .speed) d } ∷ drivenOn end cs ds)
+    cond (leb (end + c .length) position) (drivenOn end cs ds)
+    (record { number = c .number; position = position; speed = speedAfter (c .speed) d; length = c .length } ∷ drivenOn end cs ds)
 
 -- the step of a call that is not refused; "Start: it takes surface, end and limit and drops all carriers."; T-01: "a start puts them in force"
 unfoldable pub taken : Call → (word : ℕ) → Book → Book

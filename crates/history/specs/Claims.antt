@@ -1,10 +1,10 @@
 -- Demand 3, over the road book: what holds after each call of a history, and in each cycle run.
-use Prim.Native.Nat.{ℕ, _-_, _/_, _%_, _^_, _≤_, _<_}
+use Prim.Native.Nat.{ℕ, _+_, _-_, _*_, _/_, _%_, _^_, _≤_, _<_}
 use mathlib.Core.Path.{_≡_}
 use mathlib.Core.Bool.{Bool, true, false, not, _&&_}
 use mathlib.Core.List.{List}
 use lib.Dec.{eqb, ltb}
-use lib.IntN.{ℤ, pos}
+use lib.IntN.{ℤ, pos, _+ℤ_}
 use lib.ListN.{length, getD}
 use lib.Signed.{_<ℤ_}
 use Rattle.headway.specs.Motion.{positionAt}
@@ -15,7 +15,7 @@ use Rattle.lane.specs.declared.Carrier.{Carrier}
 use Rattle.lane.specs.declared.Road.{Road}
 use Rattle.lane.specs.Surface.{rowIn}
 use Rattle.lane.specs.Layout.{Words, stateOf}
-use Rattle.lane.specs.Safety.{guaranteedRate, reachTo}
+use Rattle.lane.specs.Safety.{guaranteedRate}
 use Rattle.lane.specs.Calls.{none}
 use Rattle.lane.specs.Call.{Call, start-call, load-call, enter-call, leave-call, cycle-call, read-call, text-call}
 use Rattle.history.specs.Book.{Seen, Book, trimmedIn, drivenIn, booked}
@@ -24,22 +24,26 @@ use Rattle.history.specs.Book.{Seen, Book, trimmedIn, drivenIn, booked}
 abbrev pub carrierAt : Book → ℕ → Carrier
 carrierAt b i = getD (b .carriers) i none
 
--- "in the book each carrier is below every one ahead after each call"
+-- "in the book each carrier is below every one ahead after each call"; document 02, T-03: "now has fronts behind tails". A front is below the tail
+-- of one ahead if, with the length of that one added to it, it is below its front: no tail is reckoned, since one "may lie before the lane's start".
 abbrev pub InOrder : Book → Type 0
-InOrder b = (i j : ℕ) → i < j → j < length (b .carriers) → reachTo (carrierAt b i) (carrierAt b j) < carrierAt b i .position
+InOrder b = (i j : ℕ) → i < j → j < length (b .carriers) → carrierAt b j .position + carrierAt b i .length < carrierAt b i .position
 
--- n² times the position of the carrier at place i after k/n of the cycle: "At k/n it is where Units puts it."
+-- n² times the position of the carrier at place i, which is its front, after k/n of the cycle: "At k/n it is where Units puts it."
 abbrev pub placeAt : Book → (word : ℕ) → List Wish → (n k i : ℕ) → ℤ
 placeAt b word ws n k i =
     positionAt n k (carrierAt b i .position) (carrierAt b i .speed) (getD (drivenIn b word (b .carriers) ws) i (pos 0))
 
--- "and at every fraction k/n of every cycle run"; "The fractions of a cycle take in those carriers that are gone after it, up to k = n."
+-- "and at every fraction k/n of every cycle run"; "The fractions of a cycle take in those carriers that are gone after it, up to k = n."; T-03:
+-- n² times a front below n² times the tail of every one ahead
 abbrev pub NeverTouching : Book → (word : ℕ) → List Wish → Type 0
 NeverTouching b word ws =
-    (n k i j : ℕ) → 1 ≤ n → k ≤ n → i < j → j < length (b .carriers) → placeAt b word ws n k j <ℤ placeAt b word ws n k i
+    (n k i j : ℕ) → 1 ≤ n → k ≤ n → i < j → j < length (b .carriers)
+    → (placeAt b word ws n k j +ℤ pos (n * n * carrierAt b i .length)) <ℤ placeAt b word ws n k i
 
 -- "Resting level or crossed means, with w the trimmed wish and S the sum of the positions gained until rest, that
--- p + 2v + w + S(b, v + w) isn't below p of the carrier next ahead + S(B, its v), with p and v as in the book at that cycle's start."
+-- p + 2v + w + S(b, v + w) isn't below p of the carrier next ahead + S(B, its v), with p and v as in the book at that cycle's start."; T-03: "a
+-- replaced wish is one that would have rested level with or past the tail of the one ahead", whose length is added on this side.
 -- A carrier with none ahead, and a place with no carrier, has no such case.
 unfoldable pub restsLevelOrCrossed : Book → List Wish → ℕ → Bool
 restsLevelOrCrossed b ws i =
@@ -47,7 +51,7 @@ restsLevelOrCrossed b ws i =
     let ahead = carrierAt b (i - 1) in
     ltb 0 i
     && (ltb i (length (b .carriers))
-    && not (restsBehind (guaranteedRate (rowIn (b .tables) (b .road)) c) (rowIn (b .tables) (b .road) .hardest) (reachTo ahead c) (c .speed) (trimmedIn b c (getD ws i Hold)) (ahead .position) (ahead .speed)))
+    && not (restsBehind (guaranteedRate (rowIn (b .tables) (b .road)) c) (rowIn (b .tables) (b .road) .hardest) (c .position + ahead .length) (c .speed) (trimmedIn b c (getD ws i Hold)) (ahead .position) (ahead .speed)))
 
 -- "Replaced means that the wish's bit is set."
 abbrev pub isReplaced : (word i : ℕ) → Bool

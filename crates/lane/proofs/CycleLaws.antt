@@ -2,11 +2,11 @@
 use mathlib.Core.Path.{_≡_, refl, sym, ap, _∙_}
 use mathlib.Core.Bool.{Bool, true, false, not, _&&_, cond, true≢false}
 use mathlib.Core.List.{List, [], _∷_, map}
-use Prim.Native.Nat.{ℕ, zero, suc, _+_, _-_, _/_, _%_, _^_, _≤_, _<_}
+use Prim.Native.Nat.{ℕ, zero, suc, _+_, _-_, _*_, _/_, _%_, _^_, _≤_, _<_}
 use native.Mathlib.Omega.{arith}
 use borrow.Author.Tests.{leb-true, leb-false}
 use lib.Dec.{eqb, leb, ltb}
-use lib.IntN.{ℤ, pos}
+use lib.IntN.{ℤ, pos, _+ℤ_}
 use lib.ListN.{length, getD, take, length-take}
 use lib.Seq.{getD-take}
 use lib.Signed.{_<ℤ_}
@@ -39,12 +39,12 @@ use Rattle.lane.proofs.checks.Soundness.{row-sound}
 
 -- ---- the words of the law
 
--- who drives, front to back, and who is left of them: whoever is then at or past the end is gone
+-- who drives, front to back, and who is left of them: whose tail is then at or past the end is gone
 pub data Drove (end : ℕ) : List Carrier → List ℤ → List Carrier → Type 0 where
   nobody-drives : Drove end [] [] []
-  stays-on : {c : Carrier} {a : ℤ} {cs ds : List Carrier} {accs : List ℤ} → positionAfter (c .position) (c .speed) a < end → Drove end cs accs ds
-      → Drove end (c ∷ cs) (a ∷ accs) (record { number = c .number; position = positionAfter (c .position) (c .speed) a; speed = speedAfter (c .speed) a } ∷ ds)
-  is-gone : {c : Carrier} {a : ℤ} {cs ds : List Carrier} {accs : List ℤ} → end ≤ positionAfter (c .position) (c .speed) a → Drove end cs accs ds
+  stays-on : {c : Carrier} {a : ℤ} {cs ds : List Carrier} {accs : List ℤ} → positionAfter (c .position) (c .speed) a < end + c .length → Drove end cs accs ds
+      → Drove end (c ∷ cs) (a ∷ accs) (record { number = c .number; position = positionAfter (c .position) (c .speed) a; speed = speedAfter (c .speed) a; length = c .length } ∷ ds)
+  is-gone : {c : Carrier} {a : ℤ} {cs ds : List Carrier} {accs : List ℤ} → end + c .length ≤ positionAfter (c .position) (c .speed) a → Drove end cs accs ds
       → Drove end (c ∷ cs) (a ∷ accs) ds
 
 -- the carrier at a place, and its wish
@@ -81,9 +81,9 @@ pub record CycleRun (s : State) (ws : List Wish) (word : ℕ) (after : List Carr
       && (ltb i (length (s .carriers))
       && not (restsBehind (guaranteedRate (rowIn (s .tables) (s .road)) (carrierOf s i)) (rowIn (s .tables) (s .road) .hardest) (reachTo (carrierOf s (i - 1)) (carrierOf s i)) (carrierOf s i .speed) (trimmed i) (carrierOf s (i - 1) .position) (carrierOf s (i - 1) .speed)))
   pub leaves : Drove (s .road .end) (s .carriers) accelerations after
-  -- at each fraction of the cycle each carrier is below every one ahead
+  -- at each fraction of the cycle each front is below the tail of every carrier ahead
   pub apart : (n k i j : ℕ) → 1 ≤ n → k ≤ n → i < j → j < length (s .carriers)
-      → positionAt n k (carrierOf s j .position) (carrierOf s j .speed) (getD accelerations j (pos 0))
+      → (positionAt n k (carrierOf s j .position) (carrierOf s j .speed) (getD accelerations j (pos 0)) +ℤ pos (n * n * carrierOf s i .length))
       <ℤ positionAt n k (carrierOf s i .position) (carrierOf s i .speed) (getD accelerations i (pos 0))
 
 -- ---- its proof
@@ -134,15 +134,15 @@ unfolding remaining allMoved moved pastEnd
 left-of road [] [] e = nobody-drives
 left-of road [] (d ∷ ds) e = absurd (omega arith)
 left-of road (c ∷ cs) [] e = absurd (omega arith)
-left-of road (c ∷ cs) (d ∷ ds) e = by-test (leb (road .end) (to .position)) refl (left-of road cs ds (omega arith))
+left-of road (c ∷ cs) (d ∷ ds) e = by-test (leb (road .end + c .length) (to .position)) refl (left-of road cs ds (omega arith))
   where
     to : Carrier
     to = moved c (d .acceleration)
 
-    by-test : (t : Bool) → leb (road .end) (to .position) ≡ t → Drove (road .end) cs (accelerationsIn ds) (remaining road (allMoved cs ds))
+    by-test : (t : Bool) → leb (road .end + c .length) (to .position) ≡ t → Drove (road .end) cs (accelerationsIn ds) (remaining road (allMoved cs ds))
         → Drove (road .end) (c ∷ cs) (accelerationsIn (d ∷ ds)) (cond t (remaining road (allMoved cs ds)) (to ∷ remaining road (allMoved cs ds)))
-    by-test true p h = is-gone (leb-true (road .end) (to .position) p) h
-    by-test false p h = stays-on (leb-false (road .end) (to .position) p) h
+    by-test true p h = is-gone (leb-true (road .end + c .length) (to .position) p) h
+    by-test false p h = stays-on (leb-false (road .end + c .length) (to .position) p) h
 
 -- the cycle number is one higher, and the carriers are others
 pub cycle-accepted : (s : State) (count : ℕ) (ws : List Wish) → cycleNo s count ws ≡ 0

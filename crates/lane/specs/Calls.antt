@@ -53,7 +53,7 @@ begunState s road first =
       carriers = [];
     }
 
--- ---- enter: "21, 4, 5, 6, 22, 23, 25, 26."
+-- ---- enter: "21, 4, 5, 6, 22, 23, 25, 26."; document 02, T-03: 33 "after 6"
 
 -- "For the place, the walk goes front to back and ends at the first carrier whose position is lower."
 unfoldable pub walk : (position : ℕ) → List Carrier → ℕ
@@ -61,7 +61,7 @@ walk position cs = firstPlace (λ c. ltb (c .position) position) cs
 
 -- the record of no carrier
 abbrev pub none : Carrier
-none = record { number = 0; position = 0; speed = 0 }
+none = record { number = 0; position = 0; speed = 0; length = 0 }
 
 -- the carrier ahead of a place
 abbrev pub aheadOf : ℕ → List Carrier → Ahead
@@ -80,7 +80,7 @@ placeNo s c =
     (cond (anyOf (numbered (c .number)) (s .carriers)) 23
     (gapNo (rowIn (s .tables) (s .road)) (walk (c .position) (s .carriers)) c (s .carriers)))
 
--- "Enter (number, position, speed): 21, 4, 5, 6, 22, 23, 25, 26."
+-- "Enter (number, position, speed): 21, 4, 5, 6, 22, 23, 25, 26."; T-03: "Each entry gains a length"
 unfoldable pub enterNo : State → Carrier → ℕ
 enterNo s c =
     cond (broken s) 21 (ifAccepted (newcomerNo (s .road) c) (placeNo s c) (newcomerNo (s .road) c))
@@ -130,7 +130,7 @@ namedReading s number = readingOf (namedCarrier s number .position) (namedCarrie
 abbrev pub drivesWith : State → (units : List ℤ) → List Drive
 drivesWith s zs = drives (rowIn (s .tables) (s .road)) (s .road .limit) nobody (s .carriers) zs
 
--- who is left of those that have moved: "A carrier at or past the lane end afterwards is gone"
+-- who is left of those that have moved
 abbrev pub leftAfter : State → List Drive → List Carrier
 leftAfter s ds = remaining (s .road) (allMoved (s .carriers) ds)
 

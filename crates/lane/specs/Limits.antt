@@ -23,12 +23,16 @@ fastest = 8192
 abbrev pub highestNumber : ℕ
 highestNumber = 65535
 
+-- document 02, T-03: "a length, 0 to 65,535 position units"
+abbrev pub longestCarrier : ℕ
+longestCarrier = 65535
+
 abbrev pub mostCarriers : ℕ
 mostCarriers = 64
 
 abbrev pub lastCycle : ℕ
 lastCycle = 18446744073709551615
 
--- the longest lane text: a line for the number of carriers, and of each at most 5, 10 and 4 digits
+-- the longest lane text: a line for the number of carriers, and of each at most 5, 10, 4 and 5 digits
 abbrev pub longestText : ℕ
-longestText = 2248
+longestText = 3080

@@ -11,7 +11,8 @@ use Rattle.lane.specs.declared.Carrier.{Carrier}
 use Rattle.lane.specs.State.{State}
 use Rattle.lane.specs.Rules.{broken}
 
--- the lines of a carrier, here and in the block `enter`: "at, .., speed ..: 32 bits; car: 16"; the key of each and the most that it holds
+-- the lines of a carrier, here and in the block `enter`: "at, .., speed ..: 32 bits; car: 16"; document 02, T-03: "a line `length=` (32 bits)
+-- after `speed`, printed in that place too"; the key of each and the most that it holds
 abbrev pub carKey : List ℕ
 carKey = ascii "car="
 
@@ -30,9 +31,17 @@ speedKey = ascii "speed="
 abbrev pub speedMost : ℕ
 speedMost = 4294967295
 
--- "then number, position, speed"
+abbrev pub lengthKey : List ℕ
+lengthKey = ascii "length="
+
+abbrev pub lengthMost : ℕ
+lengthMost = 4294967295
+
+-- "then number, position, speed", and the length
 unfoldable pub carrierText : Carrier → List ℕ
-carrierText c = line carKey (decimal (c .number)) ++ (line atKey (decimal (c .position)) ++ line speedKey (decimal (c .speed)))
+carrierText c =
+    line carKey (decimal (c .number))
+    ++ (line atKey (decimal (c .position)) ++ (line speedKey (decimal (c .speed)) ++ line lengthKey (decimal (c .length))))
 
 -- "front to back"
 unfoldable pub carriersText : List Carrier → List ℕ

@@ -1,12 +1,12 @@
 -- Document 01, "Calls": the ranges of a start's and a newcomer's values, and the rules of a lane behind check 21.
-use Prim.Native.Nat.{ℕ}
+use Prim.Native.Nat.{ℕ, _+_}
 use mathlib.Core.Bool.{Bool, not, _||_, cond}
 use mathlib.Core.List.{List}
 use lib.Dec.{eqb, leb, ltb}
 use Rattle.lane.specs.declared.Carrier.{Carrier}
 use Rattle.lane.specs.declared.Road.{Road}
 use Rattle.lane.specs.declared.Row.{Row}
-use Rattle.lane.specs.Limits.{lastSurface, farthestEnd, fastest, highestNumber, mostCarriers}
+use Rattle.lane.specs.Limits.{lastSurface, farthestEnd, fastest, highestNumber, longestCarrier, mostCarriers}
 use Rattle.lane.specs.Surface.{unsound, rowIn}
 use Rattle.lane.specs.State.{State}
 use Rattle.lane.specs.Safety.{laneSafe, anyOf, repeats}
@@ -29,21 +29,25 @@ badNumber = outsideOf 1 highestNumber
 abbrev pub tooFast : Road → Carrier → Bool
 tooFast road c = ltb (road .limit) (c .speed)
 
--- a carrier that breaks a rule by itself: "a number 0 .., a speed above the limit"
+-- document 02, T-03: "33 length too large"
+abbrev pub tooLong : Carrier → Bool
+tooLong c = ltb longestCarrier (c .length)
+
+-- a carrier that breaks a rule by itself: "a number 0 .., a speed above the limit"; T-03, of 21: "and at a length out of range"
 unfoldable pub unlawful : Road → Carrier → Bool
-unlawful road c = badNumber (c .number) || tooFast road c
+unlawful road c = badNumber (c .number) || tooFast road c || tooLong c
 
--- "a position at or past the end"; "A carrier at or past the lane end afterwards is gone"
+-- T-03: "A carrier is gone once its tail is at or past the end, and 21 looks at the tail likewise"
 unfoldable pub pastEnd : Road → Carrier → Bool
-pastEnd road c = leb (road .end) (c .position)
+pastEnd road c = leb (road .end + c .length) (c .position)
 
--- carriers of which one breaks a rule: by itself, past the end, by a number that stands twice, or not safe
+-- carriers of which one breaks a rule: by itself, its tail past the end, by a number that stands twice, or not safe
 unfoldable pub faulty : Row → Road → List Carrier → Bool
 faulty r road cs = anyOf (λ c. unlawful road c || pastEnd road c) cs || repeats cs || not (laneSafe r cs)
 
 -- "21 never started, or the lane handed in breaks a rule of this paper (a surface or bound outside its range, more than 64 carriers,
 -- a number 0 or twice, a speed above the limit, a position at or past the end, a lane not safe)"; document 02, T-01: "A lane handed in with an
--- unsound row gets 21", of those in force or of those for the next start
+-- unsound row gets 21", of those in force or of those for the next start; T-03: "21 looks at the tail likewise, and at a length out of range"
 unfoldable pub broken : State → Bool
 broken s =
     not (s .started)
@@ -53,6 +57,7 @@ broken s =
     || ltb mostCarriers (s .count)
     || faulty (rowIn (s .tables) (s .road)) (s .road) (s .carriers)
 
--- a newcomer's own values: "4 carrier number 0; 5 position at or past the end; 6 speed above the limit"
+-- a newcomer's own values: "4 carrier number 0; 5 position at or past the end; 6 speed above the limit", 5 of its front; T-03: "33 length too
+-- large, after 6"
 unfoldable pub newcomerNo : Road → Carrier → ℕ
-newcomerNo road c = cond (badNumber (c .number)) 4 (cond (leb (road .end) (c .position)) 5 (cond (tooFast road c) 6 0))
+newcomerNo road c = cond (badNumber (c .number)) 4 (cond (leb (road .end) (c .position)) 5 (cond (tooFast road c) 6 (cond (tooLong c) 33 0)))

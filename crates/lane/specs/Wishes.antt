@@ -46,7 +46,8 @@ unfoldable pub trimmed : Row → (limit : ℕ) → Carrier → ℤ → ℤ
 trimmed r limit c z = trimmedTo z (c .speed) (r .hardest) (r .most) limit
 
 -- "A trimmed w at or below −(smaller of b and v) stands. So does any w of the foremost carrier, and any w with
--- p + 2v + w + S(b, v + w) below p of the carrier ahead + S(B, its v), both taken at the cycle's start."
+-- p + 2v + w + S(b, v + w) below p of the carrier ahead + S(B, its v), both taken at the cycle's start."; document 02, T-03: "the position of
+-- the carrier ahead less its length, in both halves and in the wish rule"
 unfoldable pub stands : Row → Ahead → Carrier → ℤ → Bool
 stands r nobody c w = true
 stands r (leader a) c w =
@@ -65,7 +66,7 @@ drive r limit ahead c z =
 -- "One cycle with a: the speed becomes v + a, the position p + 2v + a."
 unfoldable pub moved : Carrier → ℤ → Carrier
 moved c a =
-    record { number = c .number; position = positionAfter (c .position) (c .speed) a; speed = speedAfter (c .speed) a }
+    record { number = c .number; position = positionAfter (c .position) (c .speed) a; speed = speedAfter (c .speed) a; length = c .length }
 
 -- what each carrier does, front to back, the first of the list behind `ahead`: the carrier ahead is as at the cycle's start
 unfoldable pub drives : Row → (limit : ℕ) → Ahead → List Carrier → (units : List ℤ) → List Drive
@@ -98,7 +99,7 @@ countOf (t ∷ ts) = bit t + countOf ts
 abbrev pub replacedIn : List Drive → List Bool
 replacedIn = map (λ d. d .replaced)
 
--- "A carrier at or past the lane end afterwards is gone, and its place serves again."
+-- "A carrier at or past the lane end afterwards is gone, and its place serves again."; T-03: "gone once its tail is at or past the end"
 unfoldable pub remaining : Road → List Carrier → List Carrier
 remaining road [] = []
 remaining road (c ∷ cs) = cond (pastEnd road c) (remaining road cs) (c ∷ remaining road cs)

@@ -187,6 +187,7 @@ pub(crate) fn no_carrier() -> Carrier
         number: 0,
         position: 0,
         speed: 0,
+        length: 0,
     }
 }
 
@@ -200,6 +201,7 @@ pub(crate) fn carrier_at(l: &Lane, place: usize) -> Carrier
         number: row[0],
         position: row[1],
         speed: row[2],
+        length: row[3],
     }
 }
 
@@ -214,7 +216,7 @@ pub(crate) fn put_carrier(l: &mut Lane, place: usize, c: Carrier)
         c.number,
         c.position,
         c.speed,
-        row[3],
+        c.length,
         row[4],
         row[5],
         row[6],
@@ -232,20 +234,21 @@ pub(crate) fn copy_record(l: &mut Lane, from: usize, to: usize)
     put_carrier(l, to, c);
 }
 
-// The record at one place put at another with a position and a speed of its own. The number is read from its row: held by the caller it costs more.
+// The record at one place put at another with a position and a speed of its own. What stays is read from its row: held by the caller it costs more.
 pub(crate) fn move_record(l: &mut Lane, from: usize, to: usize, position: u64, speed: u64)
     requires { ⌜ (from < 64) × (to < 64) ⌝ }
     ensures { λ r. ⌜ (figuresIn (now (l .exit)) ≡ figuresIn (now (l .entry))) × (tablesIn (now (l .exit)) ≡ tablesIn (now (l .entry))) ⌝ }
-    ensures { λ r. ⌜ recordsIn (now (l .exit)) ≡ set (recordsIn (now (l .entry))) to (record { number = getD (recordsIn (now (l .entry))) from none .number; position = position; speed = speed }) ⌝ }
+    ensures { λ r. ⌜ recordsIn (now (l .exit)) ≡ set (recordsIn (now (l .entry))) to (record { number = getD (recordsIn (now (l .entry))) from none .number; position = position; speed = speed; length = getD (recordsIn (now (l .entry))) from none .length }) ⌝ }
 {
-    let number = l[FIRST + from][0];
+    let c = carrier_at(l, from);
     put_carrier(
         l,
         to,
         Carrier {
-            number,
+            number: c.number,
             position,
             speed,
+            length: c.length,
         },
     );
 }

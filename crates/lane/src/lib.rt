@@ -39,12 +39,15 @@ pub const FASTEST: u64 = 8192;
 
 pub const HIGHEST_NUMBER: u64 = 65535;
 
+// The length of the longest carrier, in units of a position.
+pub const LONGEST_CARRIER: u64 = 65535;
+
 pub const MOST_CARRIERS: usize = 64;
 
 pub const LAST_CYCLE: u64 = 18446744073709551615;
 
 // The longest lane text.
-pub const LONGEST_TEXT: usize = 2248;
+pub const LONGEST_TEXT: usize = 3080;
 
 // The keys of a carrier's lines.
 pub const CAR: [u8; 4] = *b"car=";
@@ -52,6 +55,8 @@ pub const CAR: [u8; 4] = *b"car=";
 pub const AT: [u8; 3] = *b"at=";
 
 pub const SPEED: [u8; 6] = *b"speed=";
+
+pub const LENGTH: [u8; 7] = *b"length=";
 
 // A lane's words, in rows; `layout` says which is where.
 pub const ROWS: usize = 89;
@@ -63,11 +68,13 @@ pub type Lane = [[u64; ROW_WORDS]; ROWS];
 // A terminal's surface rows: guaranteed braking, hardest braking and most acceleration of each code.
 pub type Table = [[u64; 3]; SURFACES];
 
+// The position is that of the front; the tail is the length behind it.
 #[repr(C)]
 pub struct Carrier {
     pub number: u64,
     pub position: u64,
     pub speed: u64,
+    pub length: u64,
 }
 
 // What a start gives of the road: its surface code, the lane's end and the speed limit.

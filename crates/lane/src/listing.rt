@@ -1,4 +1,4 @@
-// The lane text: the number of carriers, and then number, position and speed of each, front to back.
+// The lane text: the number of carriers, and then number, position, speed and length of each, front to back.
 ghost use mathlib.Core.Path.{_≡_};
 ghost use mathlib.Core.Bool.{false};
 ghost use Prim.Native.Nat.{_+_, _≤_};
@@ -11,6 +11,7 @@ ghost use Rattle.lane.specs.Listing.{carrierText, laneText};
 use crate::AT;
 use crate::CAR;
 use crate::Carrier;
+use crate::LENGTH;
 use crate::LONGEST_TEXT;
 use crate::Lane;
 use crate::SPEED;
@@ -18,12 +19,13 @@ use crate::layout;
 
 // How long a carrier's lines are.
 fn carrier_length(c: Carrier) -> usize
-    ensures { λ r. ⌜ (r ≡ length (carrierText c)) × (r ≤ 76) ⌝ }
+    ensures { λ r. ⌜ (r ≡ length (carrierText c)) × (r ≤ 104) ⌝ }
 {
-    16
+    24
         + text::decimal_length(c.number)
         + text::decimal_length(c.position)
         + text::decimal_length(c.speed)
+        + text::decimal_length(c.length)
 }
 
 // How long the text is.
@@ -59,7 +61,8 @@ fn put_carrier(out: &mut [u8], at: usize, c: Carrier) -> usize
 {
     let number = text::put_decimal_line(out, at, &CAR, c.number);
     let position = text::put_decimal_line(out, number, &AT, c.position);
-    text::put_decimal_line(out, position, &SPEED, c.speed)
+    let speed = text::put_decimal_line(out, position, &SPEED, c.speed);
+    text::put_decimal_line(out, speed, &LENGTH, c.length)
 }
 
 // The text put at the buffer's start, into which it fits, and its length.

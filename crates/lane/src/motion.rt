@@ -94,7 +94,7 @@ fn next_speed(c: Carrier, acceleration: i64) -> u32
 fn wish_stands(row: Row, foremost: bool, ahead: Carrier, c: Carrier, w: i64) -> bool
     requires { ⌜ (1 ≤ row .guaranteed) × (1 ≤ row .hardest) ⌝ }
     requires { ⌜ (pos (c .speed) +ℤ w ≡ pos (speedAfter (c .speed) w)) × (speedAfter (c .speed) w ≤ 8192) ⌝ }
-    requires { ⌜ (c .position < 4294967296) × ((c .speed < 4294967296) × ((ahead .position < 4294967296) × (ahead .speed < 4294967296))) ⌝ }
+    requires { ⌜ (c .position + ahead .length < 4294967296) × ((c .speed < 4294967296) × ((ahead .position < 4294967296) × (ahead .speed < 4294967296))) ⌝ }
     ensures { λ r. ⌜ r ≡ stands row (cond foremost nobody (leader ahead)) c w ⌝ }
 {
     if foremost {
@@ -118,7 +118,7 @@ fn wish_stands(row: Row, foremost: bool, ahead: Carrier, c: Carrier, w: i64) -> 
 
 fn drive_one(row: Row, limit: u64, foremost: bool, ahead: Carrier, c: Carrier, units: i64) -> Drive
     requires { ⌜ ((1 ≤ row .guaranteed) × (1 ≤ row .hardest)) × ((c .speed ≤ limit) × (limit ≤ 8192)) ⌝ }
-    requires { ⌜ (c .position < 4294967296) × ((ahead .position < 4294967296) × (ahead .speed < 4294967296)) ⌝ }
+    requires { ⌜ (c .position + ahead .length < 4294967296) × ((ahead .position < 4294967296) × (ahead .speed < 4294967296)) ⌝ }
     ensures { λ r. ⌜ r ≡ drive row limit (cond foremost nobody (leader ahead)) c units ⌝ }
     ensures { λ r. ⌜ (pos (c .speed) +ℤ r .acceleration ≡ pos (speedAfter (c .speed) (r .acceleration))) × (speedAfter (c .speed) (r .acceleration) ≤ limit) ⌝ }
 {
@@ -145,6 +145,7 @@ fn move_one(c: Carrier, acceleration: i64) -> Carrier
         number: c.number,
         position: headway::reached(rules::narrow(c.position), rules::narrow(c.speed), next),
         speed: next as u64,
+        length: c.length,
     }
 }
 
@@ -164,7 +165,7 @@ pub(crate) struct Left {
 
 // The carrier of a place, as it has moved, put behind the `left` ones that are left, unless it is gone; how many are left then.
 fn keep(l: &mut Lane, road: Road, from: usize, left: usize, c: Carrier) -> usize
-    requires { ⌜ (from < 64) × ((left < 64) × (getD (recordsIn (now l)) from none .number ≡ c .number)) ⌝ }
+    requires { ⌜ (from < 64) × ((left < 64) × ((getD (recordsIn (now l)) from none .number ≡ c .number) × (getD (recordsIn (now l)) from none .length ≡ c .length))) ⌝ }
     ensures { λ r. ⌜ (figuresIn (now (l .exit)) ≡ figuresIn (now (l .entry))) × (tablesIn (now (l .exit)) ≡ tablesIn (now (l .entry))) ⌝ }
     ensures { λ r. ⌜ recordsIn (now (l .exit)) ≡ cond (pastEnd road c) (recordsIn (now (l .entry))) (set (recordsIn (now (l .entry))) left c) ⌝ }
     ensures { λ r. ⌜ r ≡ cond (pastEnd road c) left (left + 1) ⌝ }

@@ -18,6 +18,7 @@ use crate::Found;
 use crate::HIGHEST_NUMBER;
 use crate::LAST_CYCLE;
 use crate::LAST_SURFACE;
+use crate::LONGEST_CARRIER;
 use crate::Lane;
 use crate::MOST_CARRIERS;
 use crate::Road;
@@ -71,14 +72,17 @@ fn bad_number(number: u64) -> bool
 fn unlawful(road: Road, c: Carrier) -> bool
     ensures { λ r. ⌜ r ≡ unlawfulIn road c ⌝ }
 {
-    bad_number(c.number) | (road.limit < c.speed)
+    bad_number(c.number) | (road.limit < c.speed) | (LONGEST_CARRIER < c.length)
 }
 
-// A carrier is at or past the lane end.
+// A carrier's tail is at or past the lane end.
 pub(crate) fn past_end(road: Road, c: Carrier) -> bool
     ensures { λ r. ⌜ r ≡ pastEnd road c ⌝ }
 {
-    road.end <= c.position
+    if c.position < c.length {
+        return false;
+    }
+    road.end <= c.position - c.length
 }
 
 // The checks of a newcomer's own values.
@@ -94,6 +98,9 @@ fn newcomer_refusal(road: Road, c: Carrier) -> u32
     if road.limit < c.speed {
         return 6;
     }
+    if LONGEST_CARRIER < c.length {
+        return 33;
+    }
     0
 }
 
@@ -104,12 +111,12 @@ pub(crate) fn guaranteed_rate(row: Row, c: Carrier) -> u32
     row.guaranteed
 }
 
-// The position that must stay below the one of the carrier ahead.
+// What must stay below the position of the carrier ahead: its length is added here, since its tail may lie before the lane's start.
 pub(crate) fn reach_to(ahead: Carrier, c: Carrier) -> u32
-    requires { ⌜ c .position < 4294967296 ⌝ }
+    requires { ⌜ c .position + ahead .length < 4294967296 ⌝ }
     ensures { λ r. ⌜ r ≡ reachTo ahead c ⌝ }
 {
-    narrow(c.position)
+    narrow(c.position + ahead.length)
 }
 
 // Where a lawful carrier comes to rest that brakes at a rate.
@@ -123,19 +130,20 @@ fn rest(rate: u32, c: Carrier) -> u64
 // The follower, whose rest is known, is safe behind the carrier ahead.
 fn safe_at(row: Row, ahead: Carrier, c: Carrier, stop: u64) -> bool
     requires { ⌜ ((1 ≤ row .guaranteed) × (1 ≤ row .hardest)) × (stop ≡ restOf (guaranteedRate row c) (c .position) (c .speed)) ⌝ }
-    requires { ⌜ (c .position < 4294967296) × ((ahead .position < 4294967296) × (ahead .speed < 4294967296)) ⌝ }
+    requires { ⌜ (c .position + ahead .length < 4294967296) × ((ahead .position < 4294967296) × (ahead .speed < 4294967296)) ⌝ }
     ensures { λ r. ⌜ r ≡ safeWith row (leader ahead) c ⌝ }
 {
     if narrow(ahead.position) <= reach_to(ahead, c) {
         return false;
     }
-    stop < rest(row.hardest, ahead)
+    // The tail is past the lane's start, since somebody is below it.
+    stop < rest(row.hardest, ahead) - ahead.length
 }
 
 // The follower is safe behind the carrier ahead.
 fn safe(row: Row, ahead: Carrier, c: Carrier) -> bool
     requires { ⌜ (1 ≤ row .guaranteed) × (1 ≤ row .hardest) ⌝ }
-    requires { ⌜ (c .position < 4294967296) × ((c .speed < 4294967296) × ((ahead .position < 4294967296) × (ahead .speed < 4294967296))) ⌝ }
+    requires { ⌜ (c .position + ahead .length < 4294967296) × ((c .speed < 4294967296) × ((ahead .position < 4294967296) × (ahead .speed < 4294967296))) ⌝ }
     ensures { λ r. ⌜ r ≡ safeWith row (leader ahead) c ⌝ }
 {
     headway::safe_behind(
@@ -241,11 +249,11 @@ fn refused(no: u32) -> Checked
     Checked { no, place: 0 }
 }
 
-// The carriers next to a place: 25 and 26.
+// The carriers next to a place: 25 and 26. A position and a length together are to be of 32 bits.
 fn gap_refusal(l: &Lane, row: Row, count: usize, place: usize, c: Carrier) -> u32
     requires { ⌜ (place ≤ count) × ((count ≤ 64) × (length (recordsIn (now l)) ≡ 64)) ⌝ }
-    requires { ⌜ ((1 ≤ row .guaranteed) × (1 ≤ row .hardest)) × ((c .position < 4294967296) × (c .speed < 4294967296)) ⌝ }
-    requires { ⌜ ((i : ℕ) → i < count → (getD (recordsIn (now l)) i none .position < 4294967296) × (getD (recordsIn (now l)) i none .speed < 4294967296)) ⌝ }
+    requires { ⌜ ((1 ≤ row .guaranteed) × (1 ≤ row .hardest)) × ((c .position < 4294901760) × ((c .speed < 4294967296) × (c .length ≤ 65535))) ⌝ }
+    requires { ⌜ ((i : ℕ) → i < count → (getD (recordsIn (now l)) i none .position < 4294901760) × ((getD (recordsIn (now l)) i none .speed < 4294967296) × (getD (recordsIn (now l)) i none .length ≤ 65535))) ⌝ }
     ensures { λ r. ⌜ r ≡ gapNo row place c (take count (recordsIn (now (l .entry)))) ⌝ }
 {
     if 0 < place {

@@ -14,14 +14,14 @@ use Rattle.lane.specs.Surface.{rowIn}
 use Rattle.lane.specs.State.{State}
 use Rattle.lane.specs.Layout.{Words, stateOf, recordsIn}
 use Rattle.lane.specs.Safety.{anyOf, numbered}
-use Rattle.lane.specs.Rules.{badNumber, tooFast, unlawful, pastEnd, newcomerNo, broken}
+use Rattle.lane.specs.Rules.{badNumber, unlawful, pastEnd, newcomerNo, broken}
 use Rattle.lane.specs.Wishes.{anyOutside}
 use Rattle.lane.specs.Table.{tableIn, badTable, loadNo}
 use Rattle.lane.specs.Calls.{ifAccepted, walk, gapNo, placeNo, enterNo, namedNo, placeOf, readyNo, cycleNo}
 use Rattle.lane.specs.Call.{Call, Answer, callNo, acceptedState, lentTo, bare, acceptedAnswer, callAnswer, callState, Gives}
 use Rattle.lane.proofs.lists.Passed.{passed}
 use Rattle.lane.proofs.lists.Search.{place-any, place-le}
-use Rattle.lane.proofs.checks.Soundness.{Sound, sound}
+use Rattle.lane.proofs.checks.Soundness.{newcomer, Sound, sound}
 
 -- a value of a call that is refused, and of one that is accepted
 refused-has : {A : Type 0} (n : ℕ) (x y : A) → ¬ (n ≡ 0) → ifAccepted n x y ≡ y
@@ -121,20 +121,18 @@ pub record Enters (s : State) (c : Carrier) : Type 0 where
   pub gap : gapNo (rowIn (s .tables) (s .road)) (walk (c .position) (s .carriers)) c (s .carriers) ≡ 0
 
 pub enter-tells : (s : State) (c : Carrier) → enterNo s c ≡ 0 → Enters s c
-unfolding enterNo newcomerNo placeNo unlawful pastEnd
+unfolding enterNo placeNo
 enter-tells s c e =
     let h = accepted-sound s _ e in
     let own = accepted-both (newcomerNo (s .road) c) (placeNo s c) (passed (broken s) 20 _ e .1) in
-    let number = passed (badNumber (c .number)) 3 _ (own .0) in
-    let position = passed (leb (s .road .end) (c .position)) 4 _ (number .1) in
-    let speed = passed (tooFast (s .road) c) 5 0 (position .1) in
+    let itself = newcomer (s .road) c (own .0) in
     let full = passed (eqb (s .count) mostCarriers) 21 _ (own .1) in
     let present = passed (anyOf (numbered (c .number)) (s .carriers)) 22 _ (full .1) in
     let most : ¬ (s .count ≡ 64) = eqb-false (s .count) 64 (full .0) in
     record {
       sound = h;
-      lawful = rw (number .0, speed .0) refl;
-      before-end = position .0;
+      lawful = itself .lawful;
+      before-end = itself .before-end;
       room = omega (arith, h .count);
       new = present .0;
       gap = present .1;

@@ -7,7 +7,7 @@ use native.Mathlib.Omega.{arith}
 use borrow.Author.Tests.{lt-ltb, ltb-true, ltb-false, not-false}
 use lib.Dec.{ltb, eqb·suc-zero}
 use lib.ListN.{length, getD}
-use Rattle.headway.proofs.Laws.{safe-says, points-trans}
+use Rattle.headway.proofs.Laws.{safe-says, safe-trans}
 use Rattle.lane.specs.declared.Carrier.{Carrier}
 use Rattle.lane.specs.declared.Row.{Row}
 use Rattle.lane.specs.Safety.{Ahead, nobody, leader, guaranteedRate, reachTo, safeWith, safeFrom, laneSafe}
@@ -78,7 +78,7 @@ module _ (r : Row) where
     behind-left (leader a) c (d ∷ cs) s =
         let first = both (safeWith r (leader a) c) (safeFrom r (leader c) (d ∷ cs)) s in
         let second = both (safeWith r (leader c) d) (safeFrom r (leader d) cs) (first .1) in
-        rw (points-trans (guaranteedRate r d) (guaranteedRate r c) (r .hardest) (d .position) (d .speed) (c .position) (c .speed) (a .position) (a .speed)
+        rw (safe-trans (guaranteedRate r d) (guaranteedRate r c) (r .hardest) (d .position) (d .speed) (c .length) (c .position) (c .speed) (a .length) (a .position) (a .speed)
         (sound .brakes-harder) (second .0) (first .0)) (second .1)
 
     thinned-safe-from : {ds cs : List Carrier} → Thinned ds cs → (ahead : Ahead) → safeFrom r ahead cs ≡ true → safeFrom r ahead ds ≡ true

@@ -1,7 +1,7 @@
 -- Two carriers, one behind the other: what the code requires of them, and who is ahead of a place of the first `count`, as an index finds it.
 use mathlib.Core.Path.{_≡_, refl}
 use mathlib.Core.List.{List}
-use Prim.Native.Nat.{ℕ, _-_, _≤_, _<_}
+use Prim.Native.Nat.{ℕ, _+_, _-_, _≤_, _<_}
 use native.Mathlib.Omega.{arith}
 use borrow.Author.Tests.{eq-eqb, ne-eqb}
 use lib.ListN.{getD, take}
@@ -14,11 +14,11 @@ use Rattle.lane.proofs.checks.Soundness.{SoundRoad, Fit, fit-narrow}
 
 -- what a function requires of the two
 pub pair-narrow : (road : Road) (ahead c : Carrier) → SoundRoad road → Fit road ahead → Fit road c
-    → (c .position < 4294967296) × ((c .speed < 4294967296) × ((ahead .position < 4294967296) × (ahead .speed < 4294967296)))
+    → (c .position + ahead .length < 4294967296) × ((c .speed < 4294967296) × ((ahead .position < 4294967296) × (ahead .speed < 4294967296)))
 pair-narrow road ahead c r a b =
     let wide = fit-narrow road c r b in
     let wide-ahead = fit-narrow road ahead r a in
-    (wide .position, (wide .speed, (wide-ahead .position, wide-ahead .speed)))
+    (omega (arith, wide .position, wide-ahead .short), (wide .speed, (omega (arith, wide-ahead .position), wide-ahead .speed)))
 
 module _ (l : List Carrier) (count place : ℕ) where
   pub ahead-is : 0 < place → place ≤ count → aheadOf place (take count l) ≡ leader (getD l (place - 1) none)

@@ -4,7 +4,7 @@ use mathlib.Core.Bool.{true, false, not, _||_}
 use mathlib.Core.List.{List, _∷_}
 use Prim.Native.Nat.{ℕ, _+_, _≤_, _<_}
 use native.Mathlib.Omega.{arith}
-use borrow.Author.Tests.{le-ltb, ltb-false, leb-false, eqb-true, not-false}
+use borrow.Author.Tests.{le-ltb, lt-leb, ltb-false, leb-false, eqb-true, not-false}
 use lib.Dec.{eqb, leb, ltb}
 use lib.ListN.{length, getD, take}
 use lib.Seq.{slice}
@@ -16,7 +16,7 @@ use Rattle.lane.specs.Surface.{unsound, rowIn}
 use Rattle.lane.specs.Layout.{Words, figuresIn, tablesIn, recordsIn, stateWith, stateOf}
 use Rattle.lane.specs.State.{State}
 use Rattle.lane.specs.Safety.{laneSafe, anyOf, repeats}
-use Rattle.lane.specs.Rules.{outsideOf, badNumber, roadNo, tooFast, unlawful, pastEnd, faulty, broken, newcomerNo}
+use Rattle.lane.specs.Rules.{outsideOf, badNumber, roadNo, tooFast, tooLong, unlawful, pastEnd, faulty, broken, newcomerNo}
 use Rattle.lane.proofs.lists.Lists.{slice-next}
 use Rattle.lane.proofs.lists.Tests.{neither, none-at, none-of, any-or}
 use Rattle.lane.proofs.lists.Passed.{passed}
@@ -66,36 +66,53 @@ pub record Fit (road : Road) (c : Carrier) : Type 0 where
   pub number-least : 1 ≤ c .number
   pub number-most : c .number ≤ 65535
   pub slow : c .speed ≤ road .limit
-  pub before-end : c .position < road .end
+  pub short : c .length ≤ 65535
+  pub before-end : c .position < road .end + c .length
 
 pub fit : (road : Road) (c : Carrier) → unlawful road c ≡ false → pastEnd road c ≡ false → Fit road c
 unfolding unlawful pastEnd
 fit road c e p =
-    let t = neither (badNumber (c .number)) (tooFast road c) e in
-    let number = within 1 65535 (c .number) (t .0) in
+    let t = neither (badNumber (c .number) || tooFast road c) (tooLong c) e in
+    let u = neither (badNumber (c .number)) (tooFast road c) (t .0) in
+    let number = within 1 65535 (c .number) (u .0) in
     record {
       number-least = number .0;
       number-most = number .1;
-      slow = ltb-false (road .limit) (c .speed) (t .1);
-      before-end = leb-false (road .end) (c .position) p;
+      slow = ltb-false (road .limit) (c .speed) (u .1);
+      short = ltb-false 65535 (c .length) (t .1);
+      before-end = leb-false (road .end + c .length) (c .position) p;
+    }
+
+-- what a newcomer's own checks say of it: where its front is before the end, its tail is
+pub record Newcomer (road : Road) (c : Carrier) : Type 0 where
+  pub lawful : unlawful road c ≡ false
+  pub before-end : pastEnd road c ≡ false
+
+pub newcomer : (road : Road) (c : Carrier) → newcomerNo road c ≡ 0 → Newcomer road c
+unfolding newcomerNo unlawful pastEnd
+newcomer road c e =
+    let number = passed (badNumber (c .number)) 3 _ e in
+    let position = passed (leb (road .end) (c .position)) 4 _ (number .1) in
+    let speed = passed (tooFast road c) 5 _ (position .1) in
+    let length = passed (tooLong c) 32 0 (speed .1) in
+    let front = leb-false (road .end) (c .position) (position .0) in
+    record {
+      lawful = rw (number .0, speed .0, length .0) refl;
+      before-end = lt-leb (road .end + c .length) (c .position) (omega arith);
     }
 
 pub newcomer-fit : (road : Road) (c : Carrier) → newcomerNo road c ≡ 0 → Fit road c
-unfolding newcomerNo unlawful pastEnd
-newcomer-fit road c e =
-    let number = passed (badNumber (c .number)) 3 _ e in
-    let position = passed (leb (road .end) (c .position)) 4 _ (number .1) in
-    let speed = passed (tooFast road c) 5 0 (position .1) in
-    fit road c (rw (number .0, speed .0) refl) (position .0)
+newcomer-fit road c e = let h = newcomer road c e in fit road c (h .lawful) (h .before-end)
 
--- its numbers are 32 bits wide, and its speed within every limit
+-- its numbers are 32 bits wide, its position even with a length added, and its speed within every limit
 pub record Narrow (c : Carrier) : Type 0 where
-  pub position : c .position < 4294967296
+  pub position : c .position < 4294901760
   pub speed : c .speed < 4294967296
   pub slow : c .speed ≤ 8192
+  pub short : c .length ≤ 65535
 
 pub fit-narrow : (road : Road) (c : Carrier) → SoundRoad road → Fit road c → Narrow c
-fit-narrow road c r h = record { position = omega arith; speed = omega arith; slow = omega arith }
+fit-narrow road c r h = record { position = omega arith; speed = omega arith; slow = omega arith; short = omega arith }
 
 -- ---- carriers, by the row in force
 pub record Faultless (r : Row) (road : Road) (cs : List Carrier) : Type 0 where

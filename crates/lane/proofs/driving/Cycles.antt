@@ -64,7 +64,7 @@ driving-start row road count cs zs h kc kz =
       place = omega arith;
       few = omega arith;
       still = refl;
-      narrow = record { position = omega arith; speed = omega arith; slow = omega arith };
+      narrow = record { position = omega arith; speed = omega arith; slow = omega arith; short = omega arith };
       flags = [];
       many = refl;
       bits = word-none;

@@ -38,15 +38,16 @@ braking-leads b v limit h = leads v (braking b v) (v - b) limit (braking-speed b
 -- ---- where an acceleration leads
 pub moved-is : (c : Carrier) (a : ℤ) → Leads (c .speed) a 8192 → (x y : ℕ) → y ≡ speedAfter (c .speed) a
     → x ≡ positionAfter (c .position) (c .speed) (pos y -ℤ pos (c .speed))
-    → record { number = c .number; position = x; speed = y } ≡ moved c a
+    → record { number = c .number; position = x; speed = y; length = c .length } ≡ moved c a
 unfolding moved
 moved-is c a l x y q p =
     let there = ap (λ (u : ℕ). positionAfter (c .position) (c .speed) (pos u -ℤ pos (c .speed))) q in
     rw (p ∙ there ∙ reached-after (c .position) (c .speed) a (speedAfter (c .speed) a) (l .sum), q) refl
 
-pub moved-number : (c : Carrier) (a : ℤ) → moved c a .number ≡ c .number
+-- what a carrier keeps
+pub moved-keeps : (c : Carrier) (a : ℤ) → (moved c a .number ≡ c .number) × (moved c a .length ≡ c .length)
 unfolding moved
-moved-number c a = refl
+moved-keeps c a = (refl, refl)
 
 -- ---- whether a trimmed wish stands
 module _ (r : Row) (foremost : Bool) (ahead c : Carrier) (w : ℤ) where

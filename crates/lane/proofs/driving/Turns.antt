@@ -2,18 +2,17 @@
 use mathlib.Core.Path.{_≡_, refl, sym, ap, _∙_}
 use mathlib.Core.Bool.{Bool, true, false, not, _&&_, _||_, cond, and-false}
 use mathlib.Core.List.{List, [], _∷_, map}
-use Prim.Native.Nat.{ℕ, zero, suc, _-_, _≤_, _<_}
-use native.Mathlib.Nat.{le-of-lt}
+use Prim.Native.Nat.{ℕ, zero, suc, _+_, _-_, _*_, _≤_, _<_}
 use native.Mathlib.Omega.{arith}
 use borrow.Author.Tests.{lt-ltb, ltb-true, ltb-false}
-use lib.Dec.{ltb, ltb→lt, le→leb}
-use lib.IntN.{ℤ, pos, negsuc}
+use lib.Dec.{ltb, ltb→lt, lt→ltb}
+use lib.IntN.{ℤ, pos, negℤ, natAbs, _+ℤ_}
 use lib.ListN.{length, getD}
-use lib.Signed.{leZ, _≤ℤ_, _<ℤ_, ≤ℤ-refl, <ℤ-≤ℤ-trans}
+use lib.Signed.{leZ, _≤ℤ_, _<ℤ_, ≤ℤ-refl}
 use Rattle.headway.specs.Motion.{positionAt}
 use Rattle.headway.specs.Stopping.{braking}
 use Rattle.headway.specs.Wishes.{restsBehind}
-use Rattle.headway.proofs.Laws.{braking-is, braking-order, braking-passes, cycle-keeps-safe, apart-at}
+use Rattle.headway.proofs.Laws.{speed-sum, not-past-rest, position-moved, fraction-moved, fraction-not-negative, braking-is, braking-order, braking-passes, cycle-keeps-safe, apart-at}
 use Rattle.wish.proofs.Laws.{no-harder}
 use Rattle.lane.specs.declared.Carrier.{Carrier}
 use Rattle.lane.specs.declared.Drive.{Drive}
@@ -24,12 +23,6 @@ use Rattle.lane.specs.Calls.{none}
 use Rattle.lane.proofs.lists.Passed.{both}
 use Rattle.lane.proofs.calls.Order.{aheadIn, ahead-leader, safe-behind-leader, descends}
 use Rattle.lane.proofs.checks.Surfaces.{SoundRow}
-
-lt-le : (a b : ℤ) → a <ℤ b → a ≤ℤ b
-lt-le (pos a) (pos b) h = record { le = le→leb a b (le-of-lt (ltb→lt a b (h .lt))) }
-lt-le (pos a) (negsuc b) h = absurd (h .lt)
-lt-le (negsuc a) (pos b) h = record { le = tt }
-lt-le (negsuc a) (negsuc b) h = record { le = le→leb b a (le-of-lt (ltb→lt b a (h .lt))) }
 
 abbrev pub accelerationsIn : List Drive → List ℤ
 accelerationsIn = map (λ d. d .acceleration)
@@ -105,15 +98,20 @@ module _ (r : Row) (sound : SoundRow r) (limit : ℕ) where
       pair-safe : safeWith r (leader (moved a b)) (moved c (drive r limit (leader a) c z .acceleration)) ≡ true
       unfolding safeWith moved
       pair-safe =
-          cycle-keeps-safe (guaranteedRate r c) (r .hardest) (reachTo a c) (c .speed) (drive r limit (leader a) c z .acceleration) (a .position) (a .speed) b
-          (sound .brakes) (sound .brakes-harder) safe (drive-passes z) (drive-no-harder (leader a) c z) lo
+          let w = drive r limit (leader a) c z .acceleration in
+          let at-least = not-past-rest (r .hardest) (c .speed) w (drive-no-harder (leader a) c z) in
+          rw (← position-moved (c .position) (a .length) (c .speed) w _ (sym (speed-sum (c .speed) w at-least)))
+          (cycle-keeps-safe (guaranteedRate r c) (r .hardest) (reachTo a c) (c .speed) (drive r limit (leader a) c z .acceleration) (a .position) (a .speed) b
+          (sound .brakes) (sound .brakes-harder) safe (drive-passes z) (drive-no-harder (leader a) c z) lo)
 
+      -- the front is below the tail of the one ahead
       pair-apart : (n k : ℕ) → 1 ≤ n → k ≤ n
-          → positionAt n k (c .position) (c .speed) (drive r limit (leader a) c z .acceleration) <ℤ positionAt n k (a .position) (a .speed) b
+          → (positionAt n k (c .position) (c .speed) (drive r limit (leader a) c z .acceleration) +ℤ pos (n * n * a .length)) <ℤ positionAt n k (a .position) (a .speed) b
       unfolding safeWith
       pair-apart n k hn hk =
-          apart-at (guaranteedRate r c) (r .hardest) (reachTo a c) (c .speed) (drive r limit (leader a) c z .acceleration) (a .position) (a .speed) b
-          (sound .brakes) (sound .brakes-harder) safe (drive-passes z) (drive-no-harder (leader a) c z) lo n k hn hk
+          rw (← fraction-moved n k (c .position) (a .length) (c .speed) (drive r limit (leader a) c z .acceleration))
+          (apart-at (guaranteedRate r c) (r .hardest) (reachTo a c) (c .speed) (drive r limit (leader a) c z .acceleration) (a .position) (a .speed) b
+          (sound .brakes) (sound .brakes-harder) safe (drive-passes z) (drive-no-harder (leader a) c z) lo n k hn hk)
 
   -- ---- the lane after the cycle
   moved-from : (ahead after : Ahead)
@@ -135,22 +133,43 @@ module _ (r : Row) (sound : SoundRow r) (limit : ℕ) where
 
     module _ (wished : length cs ≤ length zs) where
       -- ---- at a fraction of the cycle
-      pub never-touching : (n k : ℕ) → 1 ≤ n → k ≤ n → (i j : ℕ) → i < j → j < length cs
-          → positionAt n k (getD cs j none .position) (getD cs j none .speed) (getD (accelerationsIn (drives r limit nobody cs zs)) j (pos 0))
-          <ℤ positionAt n k (getD cs i none .position) (getD cs i none .speed) (getD (accelerationsIn (drives r limit nobody cs zs)) i (pos 0))
-      never-touching n k hn hk =
-          descends _<ℤ_
-          (λ i. positionAt n k (getD cs i none .position) (getD cs i none .speed) (getD (accelerationsIn (drives r limit nobody cs zs)) i (pos 0)))
-          (length cs) (λ x y z p q. <ℤ-≤ℤ-trans p (lt-le y z q)) λ i h.
-          let here : i < length cs = omega arith in
-          rw (
-            drives-at (λ d. d .acceleration) (pos 0) r limit nobody cs zs (suc i) h wished,
-            drives-at (λ d. d .acceleration) (pos 0) r limit nobody cs zs i here wished,
-            ahead-leader nobody i cs here,
-          )
-          (pair-apart (getD cs i none) (getD cs (suc i) none) (safe-behind-leader r cs safe i h)
-          (drive r limit (aheadIn nobody i cs) (getD cs i none) (getD zs i (pos 0)) .acceleration)
-          (drive-no-harder (aheadIn nobody i cs) (getD cs i none) (getD zs i (pos 0))) (getD zs (suc i) (pos 0)) n k hn hk)
+      abbrev at : ℕ → Carrier
+      at i = getD cs i none
+
+      abbrev driven : ℕ → ℤ
+      driven i = getD (accelerationsIn (drives r limit nobody cs zs)) i (pos 0)
+
+      driven-is : (i : ℕ) → i < length cs → driven i ≡ drive r limit (aheadIn nobody i cs) (at i) (getD zs i (pos 0)) .acceleration
+      driven-is i h = drives-at (λ d. d .acceleration) (pos 0) r limit nobody cs zs i h wished
+
+      module _ (n k : ℕ) (hn : 1 ≤ n) (hk : k ≤ n) where
+        -- n² times the position of a front, which is not negative
+        abbrev front : ℕ → ℕ
+        front i = natAbs (positionAt n k (at i .position) (at i .speed) (driven i))
+
+        front-is : (i : ℕ) → i < length cs → positionAt n k (at i .position) (at i .speed) (driven i) ≡ pos (front i)
+        front-is i h =
+            let no-harder = drive-no-harder (aheadIn nobody i cs) (at i) (getD zs i (pos 0)) in
+            let at-least : negℤ (pos (at i .speed)) ≤ℤ driven i = rw (driven-is i h) (not-past-rest (r .hardest) (at i .speed) _ no-harder) in
+            let f = fraction-not-negative n k (at i .position) (at i .speed) (driven i) hk at-least in
+            f .1 ∙ ap pos (sym (ap natAbs (f .1)))
+
+        neighbours : (i : ℕ) → suc i < length cs → front (suc i) + n * n * at i .length < front i
+        neighbours i h =
+            let here : i < length cs = omega arith in
+            let apart = pair-apart (at i) (at (suc i)) (safe-behind-leader r cs safe i h)
+            (drive r limit (aheadIn nobody i cs) (at i) (getD zs i (pos 0)) .acceleration)
+            (drive-no-harder (aheadIn nobody i cs) (at i) (getD zs i (pos 0))) (getD zs (suc i) (pos 0)) n k hn hk in
+            let told : (positionAt n k (at (suc i) .position) (at (suc i) .speed) (driven (suc i)) +ℤ pos (n * n * at i .length)) <ℤ positionAt n k (at i .position) (at i .speed) (driven i) =
+            rw (driven-is (suc i) h, driven-is i here, ahead-leader nobody i cs here) apart in
+            let fronts : pos (front (suc i) + n * n * at i .length) <ℤ pos (front i) = rw (front-is (suc i) h, front-is i here) at told in
+            ltb→lt _ _ (fronts .lt)
+
+        pub never-touching : (i j : ℕ) → i < j → j < length cs
+            → (positionAt n k (at j .position) (at j .speed) (driven j) +ℤ pos (n * n * at i .length)) <ℤ positionAt n k (at i .position) (at i .speed) (driven i)
+        never-touching i j p q =
+            let below = descends (λ j i. front j + n * n * at i .length < front i) (λ i. i) (length cs) (λ x y z p q. omega arith) neighbours i j p q in
+            rw (front-is j q, front-is i (omega arith)) (record { lt = lt→ltb _ _ below })
 
       -- ---- who is replaced
       replaced-at : (t : Bool) (i : ℕ) → ltb i (length cs) ≡ t → getD (replacedIn (drives r limit nobody cs zs)) i false

@@ -1,9 +1,13 @@
--- Tests over all carriers: one that none passes is passed by none at any place; two tests in one pass.
+-- Tests over all carriers: one that none passes is passed by none at any place; two tests in one pass. And a test of a difference.
 use mathlib.Core.Path.{_≡_, refl, sym, ap, _∙_}
 use mathlib.Core.Bool.{Bool, true, false, _||_, false≢true}
 use mathlib.Core.List.{List, [], _∷_}
-use Prim.Native.Nat.{ℕ, zero, suc, _≤_, _<_}
+use mathlib.Core.Logic.{by-cases}
+use Prim.Native.Nat.{ℕ, zero, suc, _+_, _-_, _≤_, _<_}
+use native.Mathlib.Decide.{decLe}
 use native.Mathlib.Omega.{arith}
+use borrow.Author.Tests.{le-leb, lt-leb}
+use lib.Dec.{leb, ltb}
 use lib.ListN.{length, getD, take}
 use lib.Seq.{getD-take, length-take-le}
 use Rattle.lane.specs.declared.Carrier.{Carrier}
@@ -36,3 +40,16 @@ any-or f g (c ∷ l) = ap (λ (t : Bool). f c || g c || t) (any-or f g l) ∙ cr
     crossed false true true y = refl
     crossed false true false y = refl
     crossed false false x y = refl
+
+-- ---- a test of a difference is one of a sum
+pub less-leb : (x y m : ℕ) → m ≤ y → leb x (y - m) ≡ leb (x + m) y
+less-leb x y m h =
+    by-cases (decLe x (y - m))
+    (λ k. le-leb x (y - m) k ∙ sym (le-leb (x + m) y (omega arith)))
+    (λ k. lt-leb x (y - m) (omega arith) ∙ sym (lt-leb (x + m) y (omega arith)))
+
+pub less-ltb : (x y m : ℕ) → m ≤ y → ltb x (y - m) ≡ ltb (x + m) y
+less-ltb x y m h = less-leb (suc x) y m h ∙ ap (λ (n : ℕ). leb n y) (next x m)
+  where
+    next : (x m : ℕ) → suc x + m ≡ suc (x + m)
+    next x m = omega arith

@@ -70,7 +70,7 @@ carrier-at-requires : tie.Need-carrier-at-requires
 carrier-at-requires c κs = omega (arith, place-is c, told c .within, counted-most (lane c), told c .sound .count)
 
 narrow-requires : tie.Need-narrow-requires
-narrow-requires c κs = rw (c .carrier-at .ensures ∙ named (c .before)) (narrow (c .before) .position)
+narrow-requires c κs = rw (c .carrier-at .ensures ∙ named (c .before)) (omega (arith, narrow (c .before) .position))
 
 narrow-requires-2 : tie.Need-narrow-requires-2
 narrow-requires-2 c κs = rw (c .before .carrier-at .ensures ∙ named (c .before .before)) (narrow (c .before .before) .speed)

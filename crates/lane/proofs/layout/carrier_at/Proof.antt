@@ -1,4 +1,4 @@
--- A row's first three words are its record.
+-- A row's first four words are its record.
 use borrow.Author.Needs.{needs}
 use Rattle.lane.proofs.checks.Records.{record-at}
 use Rattle.lane.proofs.layout.carrier_at.Statement.{statement}
@@ -22,6 +22,9 @@ array-read-t14 c = search needs
 array-read-t17 : tie.Need-array-read-t17
 array-read-t17 c = search needs
 
+array-read-t20 : tie.Need-array-read-t20
+array-read-t20 c = search needs
+
 returns : tie.Need-returns
 returns c = record-at (c .before .args .l .now) (c .before .args .place)
 
@@ -35,4 +38,5 @@ carrier-at-spec =
     array-read-t11
     array-read-t14
     array-read-t17
+    array-read-t20
     returns)

@@ -25,9 +25,6 @@ array-read-t18 c = search needs
 array-read-t21 : tie.Need-array-read-t21
 array-read-t21 c = search needs
 
-array-read-t24 : tie.Need-array-read-t24
-array-read-t24 c = search needs
-
 add-t5 : tie.Need-add-t5
 add-t5 c = search needs
 
@@ -51,7 +48,6 @@ put-carrier-spec =
     array-read-t15
     array-read-t18
     array-read-t21
-    array-read-t24
     add-t5
     mul-t6
     element-set-from-l

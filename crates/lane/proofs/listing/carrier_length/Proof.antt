@@ -1,4 +1,4 @@
--- `lane::listing::carrier_length` meets its contract: the keys and newlines are 16 bytes, and each of the three words has at most 20 digits.
+-- `lane::listing::carrier_length` meets its contract: the keys and newlines are 24 bytes, and each of the four words has at most 20 digits.
 use borrow.Author.Needs.{needs}
 use Prim.Native.Nat.{_≤_}
 use native.Mathlib.Omega.{arith}
@@ -14,9 +14,10 @@ record Few (x : Carrier) : Type 0 where
   number : length (decimal (x .number)) ≤ 20
   position : length (decimal (x .position)) ≤ 20
   speed : length (decimal (x .speed)) ≤ 20
+  long : length (decimal (x .length)) ≤ 20
 
 few : (c : tie.Start) → Few (c .args .c)
-few c = record { number = digits-64 _ (search needs); position = digits-64 _ (search needs); speed = digits-64 _ (search needs) }
+few c = record { number = digits-64 _ (search needs); position = digits-64 _ (search needs); speed = digits-64 _ (search needs); long = digits-64 _ (search needs) }
 
 decimal-length-requires : tie.Need-decimal-length-requires
 decimal-length-requires c κs = search needs
@@ -36,9 +37,15 @@ decimal-length-requires-3 c κs = search needs
 add-result-3 : tie.Need-add-result-3
 add-result-3 c = omega (arith, few (c .before .before .before))
 
+decimal-length-requires-4 : tie.Need-decimal-length-requires-4
+decimal-length-requires-4 c κs = search needs
+
+add-result-4 : tie.Need-add-result-4
+add-result-4 c = omega (arith, few (c .before .before .before .before))
+
 returns : tie.Need-returns
 returns c =
-    let s = c .before .before .before in
+    let s = c .before .before .before .before in
     (omega (arith, length-carrier (s .args .c)), omega (arith, few s))
 
 pub carrier-length-spec : {M : Type 1} → statement M
@@ -51,4 +58,6 @@ carrier-length-spec =
     add-result-2
     decimal-length-requires-3
     add-result-3
+    decimal-length-requires-4
+    add-result-4
     returns)

@@ -16,7 +16,7 @@ use Rattle.lane.specs.Wishes.{drive, moved}
 use Rattle.lane.specs.Calls.{none}
 use Rattle.lane.proofs.checks.Records.{same-head}
 use Rattle.lane.proofs.checks.Soundness.{SoundRoad, sound-road, Fit, fit-of, faultless, Narrow, fit-narrow}
-use Rattle.lane.proofs.driving.Drives.{moved-number}
+use Rattle.lane.proofs.driving.Drives.{moved-keeps}
 use Rattle.lane.proofs.driving.Cycles.{aheadAt, Driving, driving-start, word-below, here, driving-on, all-marked, all-kept}
 use Rattle.lane.proofs.motion.drive_all.Statement.{statement}
 use Rattle.lane.proofs.motion.drive_all.Tie as tie
@@ -100,7 +100,7 @@ drive-one-requires c κs =
     let road = road-sound k in
     let ahead = at k .loop .inv .1 .narrow in (
       (s k .pre .1 .1, (fit-here k .slow, road .limit-most)),
-      (narrow-here k .position, (ahead .position, ahead .speed)),
+      (omega (arith, narrow-here k .position, ahead .short), (omega (arith, ahead .position), ahead .speed)),
     )
 
 marked-requires : tie.Need-marked-requires Inv-loop μ-loop
@@ -112,18 +112,19 @@ move-one-requires : tie.Need-move-one-requires Inv-loop μ-loop
 move-one-requires c κs =
     let d = c .before .before .before in
     let k = d .before .before in
-    rw (toZ-ofZ (driven-fits c)) (d .drive-one .ensures .1 .0, (omega (arith, d .drive-one .ensures .1 .1, road-sound k .limit-most), (narrow-here k .position, narrow-here k .speed)))
+    rw (toZ-ofZ (driven-fits c)) (d .drive-one .ensures .1 .0, (omega (arith, d .drive-one .ensures .1 .1, road-sound k .limit-most), (omega (arith, narrow-here k .position), narrow-here k .speed)))
 
 keep-requires : tie.Need-keep-requires Inv-loop μ-loop
 keep-requires c κs =
     let d = c .before .before .before .before in
     let k = d .before .before in
     let few = s k .pre .0 .0 in
-    let number : Carrier → ℕ = λ x. x .number in (
+    let same : (f : Carrier → ℕ) → f (moved (k .carrier-at .result) _) ≡ f (k .carrier-at .result) → f (getD (recordsIn (at k .loop .l)) (at k .loop .i) none) ≡ f (c .move-one .result) =
+    λ f e. ap f (sym (k .carrier-at .ensures)) ∙ sym (ap f (c .move-one .ensures) ∙ e) in (
       omega (arith, below k, few),
       (
         omega (arith, below k, few, at k .loop .inv .1 .few),
-        ap number (sym (k .carrier-at .ensures)) ∙ sym (ap number (c .move-one .ensures) ∙ moved-number (k .carrier-at .result) _),
+        (same (λ x. x .number) (moved-keeps (k .carrier-at .result) _ .0), same (λ x. x .length) (moved-keeps (k .carrier-at .result) _ .1)),
       ),
     )
 

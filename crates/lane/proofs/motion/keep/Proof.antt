@@ -1,6 +1,6 @@
 -- `lane::motion::keep` meets its contract, by whether the carrier is gone.
 use borrow.Author.Needs.{needs}
-use mathlib.Core.Path.{refl, sym, ap, _∙_}
+use mathlib.Core.Path.{refl, sym, ap₂, _∙_}
 use Prim.Native.Nat.{ℕ}
 use lib.ListN.{set}
 use Rattle.lane.specs.Layout.{recordsIn}
@@ -24,7 +24,7 @@ returns-2 c =
     let s = c .before .before .before .before in
     let a = s .args in
     let put = c .move-record .ensures in
-    let same = ap (λ (n : ℕ). set (recordsIn (a .l .now)) (a .left) (record { number = n; position = a .c .position; speed = a .c .speed })) (s .pre .1 .1) in
+    let same = ap₂ (λ (n m : ℕ). set (recordsIn (a .l .now)) (a .left) (record { number = n; position = a .c .position; speed = a .c .speed; length = m })) (s .pre .1 .1 .0) (s .pre .1 .1 .1) in
     rw (sym (c .before .before .before .past-end .ensures) ∙ c .before .before .if1 .left) (put .0, (put .1 ∙ same, refl))
 
 pub keep-spec : {M : Type 1} → statement M

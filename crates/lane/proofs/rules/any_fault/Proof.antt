@@ -156,7 +156,7 @@ rest-requires : tie.Need-rest-requires Inv-loop μ-loop
 rest-requires c κs =
     let e = c .before .before in
     let wide = fit-narrow _ _ (road-sound e) (lawful e) in
-    (wide .position, wide .speed)
+    (omega (arith, wide .position), wide .speed)
 
 array-read-mark : tie.Need-array-read-mark Inv-loop μ-loop
 array-read-mark c = omega (arith, low (carrier (c .before .before .before .before) .number))

@@ -85,8 +85,8 @@ gap-refusal-requires c κs =
     let new = fit-narrow (f .road) (a .c) (s .road) (newcomer-fit (f .road) (a .c) (rw (at .figures-of .ensures .0) (at .before .pre .1))) in (
       (omega (arith, c .before .entry-place .ensures), (s .count, at .figures-of .ensures .1)),
       (
-        (rw (c .row-in .ensures) (row-brakes _ (row-sound s)), (new .position, new .speed)),
-        λ i h. let n = fit-narrow (f .road) _ (s .road) (fit-of (f .road) l (f .count) i none (s .carriers) h (omega (arith, s .count))) in (n .position, n .speed),
+        (rw (c .row-in .ensures) (row-brakes _ (row-sound s)), (new .position, (new .speed, new .short))),
+        λ i h. let n = fit-narrow (f .road) _ (s .road) (fit-of (f .road) l (f .count) i none (s .carriers) h (omega (arith, s .count))) in (n .position, (n .speed, n .short)),
       ),
     )
 

@@ -26,7 +26,8 @@ safe-requires : tie.Need-safe-requires
 safe-requires c κs =
     let s = c .before .before in
     let own = s .pre .1 .0 in
-    (own .0, (own .1 .0, (own .1 .1, rw (c .carrier-at .ensures) (s .pre .1 .1 (s .args .place - 1) (omega arith)))))
+    let ahead = rw (← c .carrier-at .ensures) at (s .pre .1 .1 (s .args .place - 1) (omega arith)) in
+    (own .0, (omega (arith, own .1, ahead), (own .1 .1 .0, (omega (arith, ahead), ahead .1 .0))))
 
 -- the first test, where someone is ahead
 ahead-tested : (c : tie.After-safe) → let a = c .before .before .before .args in
@@ -64,7 +65,7 @@ safe-requires-2 c κs =
     let s = c .before .before .before in
     let own = s .pre .1 .0 in
     let behind = rw (← c .carrier-at2 .ensures) at (s .pre .1 .1 (s .args .place) (omega arith)) in
-    (own .0, (behind .0, (behind .1, own .1)))
+    (own .0, (omega (arith, own .1, behind), (behind .1 .0, (omega (arith, own .1), own .1 .1 .0))))
 
 -- the second test, where someone is behind
 behind-tested : (c : tie.After-safe2) → let a = c .before .before .before .before .args in let cs = take (a .count) (recordsIn (a .l .now)) in

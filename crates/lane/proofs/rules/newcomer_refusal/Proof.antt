@@ -30,9 +30,17 @@ returns-3 c =
 returns-4 : tie.Need-returns-4
 unfolding newcomerNo
 returns-4 c =
-    let at-end = c .before .before .before in
-    rw (good-number (at-end .before .before .before), lt-leb _ _ (at-end .if2 .left), le-ltb _ _ (c .if3 .left)) refl
+    let at-limit = c .before .before in
+    let at-end = at-limit .before .before .before in
+    rw (good-number (at-end .before .before .before), lt-leb _ _ (at-end .if2 .left), le-ltb _ _ (at-limit .if3 .left), lt-ltb _ _ (c .if4 .taken)) refl
+
+returns-5 : tie.Need-returns-5
+unfolding newcomerNo
+returns-5 c =
+    let at-limit = c .before .before in
+    let at-end = at-limit .before .before .before in
+    rw (good-number (at-end .before .before .before), lt-leb _ _ (at-end .if2 .left), le-ltb _ _ (at-limit .if3 .left), le-ltb _ _ (c .if4 .left)) refl
 
 pub newcomer-refusal-spec : {M : Type 1} → statement M
 newcomer-refusal-spec =
-    tie.close (tie.spec bad-number-requires returns returns-2 returns-3 returns-4)
+    tie.close (tie.spec bad-number-requires returns returns-2 returns-3 returns-4 returns-5)

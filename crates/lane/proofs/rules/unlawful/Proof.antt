@@ -9,7 +9,7 @@ bad-number-requires c κs = search needs
 
 returns : tie.Need-returns
 unfolding unlawful
-returns c = rw (c .before .before .bad-number .ensures) refl
+returns c = rw (c .before .before .before .bad-number .ensures) refl
 
 pub unlawful-spec : {M : Type 1} → statement M
 unlawful-spec = tie.close (tie.spec bad-number-requires returns)
