@@ -110,7 +110,8 @@ static void check_unsound(void) {
     for (size_t i = 0; i < 8; i++) {
         rondavitse_lane lane = lane_of(2);
         rondavitse_record *rear = &lane.records[1];
-        uint64_t *figures[] = {&lane.surface, &lane.end, &lane.limit, &lane.count, &rear->number, &rear->position, &rear->speed, &rear->length};
+        uint64_t *figures[] = {&lane.surface, &lane.end,       &lane.limit,  &lane.count,
+                               &rear->number, &rear->position, &rear->speed, &rear->length};
         *figures[i] += UINT64_C(1) << 32;
         check_21(lane);
     }

@@ -1,5 +1,5 @@
-/* That a carrier's tail counts: every call takes a lane with a front past the end or a tail before the start, and whoever follows keeps behind
- * the tail. */
+/* That a carrier's tail counts: every call takes a lane with a front past the end or a tail before the start, and a carrier is safe behind the
+ * tail ahead or not at all. */
 #include "lanes.h"
 
 /* The foremost at rest with its tail one unit before the end, so that its front is past it, and one at rest right behind the tail. */
@@ -61,7 +61,8 @@ static void check_text(void) {
     const size_t length = wanted_text(wanted, &lane), head = strlen("ok=show\n");
     same("text over the end", "length", rondavitse_lane_text(&lane, out, sizeof out).length, length);
     same("text over the end", "bytes", (uint64_t)memcmp(out, wanted, length), 0);
-    same("show over the end", "written", rondavitse_step(&lane, (const uint8_t *)"call=show\n", 10, 0, out, sizeof out).written, head + length);
+    const rondavitse_stepped shown = rondavitse_step(&lane, (const uint8_t *)"call=show\n", strlen("call=show\n"), 0, out, sizeof out);
+    same("show over the end", "written", shown.written, head + length);
     same("show over the end", "bytes", (uint64_t)memcmp(out + head, wanted, length), 0);
     same_words("text over the end", &lane, &kept);
 }
@@ -122,22 +123,35 @@ static void check_longer_than_lane(void) {
     }
 }
 
+/* One that would rest 64 units on, behind one at rest, whichever enters first: level with the tail is refused, one unit less is not. */
+static void check_rest(uint64_t length) {
+    for (uint64_t tail = 764; tail <= 765; tail++) {
+        const rondavitse_carrier ahead = {7, tail + length, 0, length}, behind = {8, 700, 64, 9};
+        rondavitse_lane from_front = started_lane(100000), from_rear = from_front;
+        same("rest", "no of the one ahead, first", rondavitse_enter(&from_front, ahead).no, RONDAVITSE_ACCEPTED);
+        same("rest", "no of the one behind", rondavitse_enter(&from_front, behind).no, tail == 764 ? RONDAVITSE_UNSAFE_BEHIND_LEADER : 0);
+        same("rest", "no of the one behind, first", rondavitse_enter(&from_rear, behind).no, RONDAVITSE_ACCEPTED);
+        same("rest", "no of the one ahead", rondavitse_enter(&from_rear, ahead).no, tail == 764 ? RONDAVITSE_FOLLOWER_UNSAFE : 0);
+    }
+}
+
 /* Document 01's case with the tail where the front was: a wish that would rest level with the tail is replaced, one unit less stands. */
 static void check_wish(uint64_t length) {
     const uint8_t sorts[] = {RONDAVITSE_HOLD, RONDAVITSE_UNITS};
     const uint32_t values[] = {0, 32};
     for (uint64_t tail = 1020; tail <= 1021; tail++) {
         rondavitse_lane lane = started_lane(100000);
-        const rondavitse_carrier ahead = {7, tail + length, 0, length}, behind = {8, 700, 64, length};
+        const rondavitse_carrier ahead = {7, tail + length, 0, length}, behind = {8, 700, 64, 9};
         same("wish", "no of the one ahead", rondavitse_enter(&lane, ahead).no, RONDAVITSE_ACCEPTED);
         same("wish", "no of the one behind", rondavitse_enter(&lane, behind).no, RONDAVITSE_ACCEPTED);
         same("wish", "word", rondavitse_cycle(&lane, 2, sorts, 2, values, 2).word, tail == 1020 ? 2 : 0);
         same("wish", "position", lane.records[1].position, tail == 1020 ? 764 : 860);
-        same("wish", "length", lane.records[1].length, length);
+        same("wish", "length", lane.records[1].length, 9);
     }
 }
 
 int main(void) {
+    const uint64_t lengths[] = {0, 1, 300, RONDAVITSE_LONGEST_CARRIER};
     check_start_and_load();
     check_enter();
     check_read_and_leave();
@@ -146,8 +160,9 @@ int main(void) {
     check_cycle(1, 1);
     check_tail_before_start();
     check_longer_than_lane();
-    check_wish(0);
-    check_wish(1);
-    check_wish(RONDAVITSE_LONGEST_CARRIER);
+    for (size_t i = 0; i < sizeof lengths / sizeof lengths[0]; i++) {
+        check_rest(lengths[i]);
+        check_wish(lengths[i]);
+    }
     return verdict();
 }
