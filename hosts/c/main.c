@@ -77,7 +77,11 @@ static uint64_t length_of(uint64_t number) {
 /* A carrier that is refused waits with its number for the next try. */
 static void try_entry(host *h, uint64_t position, uint64_t speed) {
     const rondavitse_carrier carrier = {
-        .number = h->next_number, .position = position, .speed = speed, .length = length_of(h->next_number)};
+        .number = h->next_number,
+        .position = position,
+        .speed = speed,
+        .length = length_of(h->next_number),
+    };
     const rondavitse_entered answer = rondavitse_enter(&h->lane, carrier);
     if (answer.no == RONDAVITSE_ACCEPTED) {
         h->next_number++;
