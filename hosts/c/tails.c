@@ -21,18 +21,18 @@ static void check_start_and_load(void) {
     same_state("start over the end", &lane, &wanted);
 }
 
-/* An entry's own front is before the end, and so behind the foremost's tail. */
+/* No front enters at the end, nor one unit before it, level with the foremost's tail; far behind both one does. */
 static void check_enter(void) {
     rondavitse_carrier newcomer = carrier_at(2);
-    rondavitse_lane lane = lane_over_end(), wanted = lane;
+    rondavitse_lane lane = lane_over_end(), wanted = lane_of(3);
+    const rondavitse_lane before = lane;
     newcomer.position = ROAD.end;
     same("enter over the end", "no at the end", rondavitse_enter(&lane, newcomer).no, RONDAVITSE_POSITION_PAST_END);
     newcomer.position = ROAD.end - 1;
     same("enter over the end", "no before it", rondavitse_enter(&lane, newcomer).no, RONDAVITSE_UNSAFE_BEHIND_LEADER);
-    same_words("enter over the end", &lane, &wanted);
+    same_words("enter over the end", &lane, &before);
     const rondavitse_entered got = rondavitse_enter(&lane, carrier_at(2));
-    wanted = lane_of(3);
-    memcpy(wanted.records, lane_over_end().records, 2 * sizeof wanted.records[0]);
+    memcpy(wanted.records, before.records, 2 * sizeof before.records[0]);
     same("enter over the end", "no", got.no, RONDAVITSE_ACCEPTED);
     same("enter over the end", "place", got.place, 2);
     same_state("enter over the end", &lane, &wanted);
