@@ -3,7 +3,8 @@
  * A lane is a struct of the host's own: each call is lent it and changes it in place. A host begins with rondavitse_empty: a lane of zeros
  * has unsound rows, and a start there gives 21 until a table is loaded. `no` is 0 where a call is accepted; else it is the number of its
  * refusal, every value beside it is zero (but for a step's `next` and `stop`), and every word of the lane and every lent byte is as before.
- * Positions count 1/2048 m, speeds 1/128 m/s, accelerations 1/16 m/s²; a cycle is 1/8 s.
+ * Positions and lengths count 1/2048 m, speeds 1/128 m/s, accelerations 1/16 m/s²; a cycle is 1/8 s. A carrier's position is that of its
+ * front; its tail is its length behind that, and may be before the lane's start.
  *
  * Any words may stand in the lane and any numbers may be given: those of a call are 64 bits wide and refused past their ranges, never cut.
  * The host sees to the pointers:
@@ -31,7 +32,7 @@ extern "C" {
 
 /* The number of this interface, another one whenever a struct, a number, a constant or a function changes. A host asks the library for its
  * own before the first call: where they differ, header and library do not belong together. */
-#define RONDAVITSE_VERSION 2
+#define RONDAVITSE_VERSION 3
 uint32_t rondavitse_version(void);
 
 #define RONDAVITSE_LAST_SURFACE 7
@@ -39,9 +40,10 @@ uint32_t rondavitse_version(void);
 #define RONDAVITSE_FARTHEST_END UINT64_C(2147483648)
 #define RONDAVITSE_FASTEST 8192         /* the highest speed limit */
 #define RONDAVITSE_HIGHEST_NUMBER 65535 /* of a carrier; the lowest is 1 */
+#define RONDAVITSE_LONGEST_CARRIER 65535
 #define RONDAVITSE_MOST_CARRIERS 64
 #define RONDAVITSE_LAST_CYCLE UINT64_MAX /* the cycle number after which no cycle is run */
-#define RONDAVITSE_LONGEST_TEXT 2248     /* bytes: a buffer that holds every lane text */
+#define RONDAVITSE_LONGEST_TEXT 3080     /* bytes: a buffer that holds every lane text */
 #define RONDAVITSE_ANSWER_BUFFER 4096    /* bytes: the least buffer of a step */
 #define RONDAVITSE_MOST_STACK 4096       /* bytes */
 
@@ -70,7 +72,8 @@ enum rondavitse_refusal {
     RONDAVITSE_COUNT_DIFFERS = 27,
     RONDAVITSE_CYCLES_EXHAUSTED = 28,
     RONDAVITSE_TABLE_UNSOUND = 31,
-    RONDAVITSE_LANE_OCCUPIED = 32
+    RONDAVITSE_LANE_OCCUPIED = 32,
+    RONDAVITSE_LENGTH_TOO_LARGE = 33
 };
 
 static inline const char *rondavitse_words(uint32_t no) {
@@ -99,6 +102,7 @@ static inline const char *rondavitse_words(uint32_t no) {
     case RONDAVITSE_CYCLES_EXHAUSTED: return "cycle number is 2^64 - 1";
     case RONDAVITSE_TABLE_UNSOUND: return "malformed table text, or an unsound row";
     case RONDAVITSE_LANE_OCCUPIED: return "carriers are on the lane";
+    case RONDAVITSE_LENGTH_TOO_LARGE: return "length above 65,535";
     default: return "unknown refusal";
     }
 }
@@ -127,14 +131,16 @@ typedef struct rondavitse_carrier {
     uint64_t number;
     uint64_t position;
     uint64_t speed;
+    uint64_t length;
 } rondavitse_carrier;
 
-/* A carrier as it stands in the lane. */
+/* A carrier as it stands in the lane: its front may be past the lane end, its tail is before it. */
 typedef struct rondavitse_record {
     uint64_t number;
     uint64_t position;
     uint64_t speed;
-    uint64_t free[5];
+    uint64_t length;
+    uint64_t free[4];
 } rondavitse_record;
 
 /* The first `count` records are the carriers, front to back. An unsound row in either set gets 21, but for what is said at load and start; a
@@ -163,7 +169,7 @@ typedef struct rondavitse_cycled {
     uint32_t no;
     uint64_t word;     /* bit i: the wish of place i, as before the cycle, was replaced by guaranteed braking */
     uint32_t replaced; /* how many were */
-    uint32_t gone;     /* carriers at or past the lane end, which are no longer on the lane */
+    uint32_t gone;     /* carriers whose tail is at or past the lane end, which are no longer on the lane */
 } rondavitse_cycled;
 
 typedef struct rondavitse_reading {
@@ -200,7 +206,8 @@ uint32_t rondavitse_load(rondavitse_lane *lane, const uint8_t *text, size_t text
  * gives `no`. Checks in order: 21, for an unsound row among `next_rows` and nothing else; 1, 2, 3. */
 uint32_t rondavitse_start(rondavitse_lane *lane, rondavitse_road road, uint64_t first);
 
-/* The carrier goes in at the place found, if it and the one behind it are safe there. Checks: 21, 4, 5, 6, 22, 23, 25, 26. */
+/* The carrier goes in at the place found, if it and the one behind it are safe there, each behind the tail of the one ahead.
+ * Checks: 21, 4, 5 for its front, 6, 33, 22, 23, 25, 26. */
 rondavitse_entered rondavitse_enter(rondavitse_lane *lane, rondavitse_carrier carrier);
 
 /* The carrier named comes out; gives `no`. Checks: 21, 4, 24. */
@@ -232,7 +239,7 @@ static inline uint32_t rondavitse_float(float value) {
 rondavitse_cycled rondavitse_cycle(rondavitse_lane *lane, size_t count, const uint8_t *sorts, size_t sorts_length,
                                    const uint32_t *values, size_t values_length);
 
-/* Where a carrier is and how fast. Checks: 21, 4, 24. */
+/* Where a carrier's front is and how fast it drives. Checks: 21, 4, 24. */
 rondavitse_read_out rondavitse_read(const rondavitse_lane *lane, uint64_t number);
 
 /* The lane as lines of text at the buffer's start; bytes after the text stay as they were. Checks: 21, 9. */

@@ -9,6 +9,7 @@ text { font: 12px sans-serif; fill: #333 }
 .number { font-weight: bold; stroke: white; stroke-width: 3px; paint-order: stroke }
 .grid { stroke: #e4e4e4 }
 .end { stroke: #333; stroke-dasharray: 6 4 }
+.band { fill-opacity: 0.22 }
 .track { fill: none; stroke-width: 2; stroke-linejoin: round }
 .replaced { fill: none; stroke: #d62728; stroke-width: 5; stroke-opacity: 0.55; stroke-linecap: round }
 .mark { stroke: white; stroke-width: 1.5 }
@@ -28,11 +29,18 @@ def elements(story):
     yield f'<rect width="{WIDTH}" height="{HEIGHT}" fill="white"/>'
     yield from legend()
     yield from axes(scale)
-    for index, track in enumerate(story.tracks):
-        yield from carrier(scale, track, COLOURS[index % len(COLOURS)])
+    coloured = [(track, COLOURS[index % len(COLOURS)]) for index, track in enumerate(story.tracks)]
+    # Tails before the lane's start and fronts past its end are cut off; marks at the edge are not.
+    yield f'<clipPath id="frame"><rect x="{LEFT}" y="{TOP}" width="{WIDTH - LEFT - RIGHT}" height="{HEIGHT - TOP - BOTTOM}"/></clipPath>'
+    yield '<g clip-path="url(#frame)">'
+    for track, colour in coloured:
+        yield from carrier(scale, track, colour)
+    yield "</g>"
+    for track, colour in coloured:
+        yield from marks(scale, track, colour)
     # Numbers go on top, so that no line runs through them.
-    for index, track in enumerate(story.tracks):
-        yield number(scale, track, COLOURS[index % len(COLOURS)])
+    for track, colour in coloured:
+        yield number(scale, track, colour)
     for time, position, refusal in story.refusals:
         yield from refused(scale.x(time), scale.y(position), refusal)
     if story.cut:
@@ -51,11 +59,13 @@ def summary(story):
 
 
 class Scale:
-    """From cycles and positions to places on the picture; the positions drawn are those that carriers come to."""
+    """From cycles and positions to places on the picture; the positions drawn are those of the lane that carriers come to."""
 
     def __init__(self, story):
-        positions = [position for track in story.tracks for _, position in track.points]
-        positions += [position for _, position, _ in story.refusals]
+        positions = [position for _, position, _ in story.refusals]
+        for track in story.tracks:
+            positions += [position for _, position in [*track.points, *tail(track)]]
+        positions = [min(max(0, position), story.lane_end) for position in positions]
         reached = max(positions) - min(positions) or METRE
         self.lane_end = story.lane_end
         self.low = max(0, min(positions) - reached // 20)
@@ -101,14 +111,22 @@ def axes(scale):
 
 
 def carrier(scale, track, colour):
+    yield f'<polygon class="band" fill="{colour}" points="{line(scale, track.points + tail(track)[::-1])}"/>'
     yield from (f'<polyline class="replaced" points="{line(scale, part)}"/>' for part in replaced_parts(track))
     yield f'<polyline class="track" stroke="{colour}" points="{line(scale, track.points)}"/>'
+
+
+def tail(track):
+    return [(time, position - track.length) for time, position in track.points]
+
+
+def marks(scale, track, colour):
     (first_time, first), (last_time, last) = track.points[0], track.points[-1]
     yield entry_mark(scale.x(first_time), scale.y(first), colour)
     if track.end == "left":
-        yield exit_mark(scale.x(last_time), scale.y(last), colour)
+        yield exit_mark(scale.x(last_time), scale.y(min(last, scale.high)), colour)
     elif track.end == "gone":
-        yield gone_mark(scale.x(last_time), scale.y(last), colour)
+        yield gone_mark(scale.x(last_time), scale.y(last - track.length), colour)
 
 
 def line(scale, points):
@@ -154,13 +172,13 @@ def refused(x, y, refusal):
 
 
 def legend():
-    marks = (
+    meanings = (
         (entry_mark, "enters"),
         (exit_mark, "leaves"),
         (gone_mark, "gone at the lane end"),
     )
     x, y = LEFT, 26
-    for mark, meaning in marks:
+    for mark, meaning in meanings:
         yield mark(x + 6, y - 4, "#555")
         yield f'<text x="{x + 18}" y="{y}">{meaning}</text>'
         x += 40 + 7 * len(meaning)
@@ -169,3 +187,7 @@ def legend():
     x += 130
     yield f'<line class="replaced" x1="{x}" y1="{y - 4}" x2="{x + 24}" y2="{y - 4}"/>'
     yield f'<text x="{x + 32}" y="{y}">wish replaced by braking</text>'
+    x += 200
+    yield f'<rect class="band" x="{x}" y="{y - 10}" width="24" height="12" fill="#555"/>'
+    yield f'<line class="track" stroke="#555" x1="{x}" y1="{y - 10}" x2="{x + 24}" y2="{y - 10}"/>'
+    yield f'<text x="{x + 32}" y="{y}">from tail to front</text>'

@@ -4,7 +4,7 @@ import subprocess
 from dataclasses import dataclass, field
 
 LONGEST_INPUT = 65536
-LINES = {b"start": 5, b"enter": 4, b"leave": 2, b"show": 1}  # of a block; those of a cycle are two and its wishes
+LINES = {b"start": 5, b"enter": 5, b"leave": 2, b"show": 1}  # of a block; those of a cycle are two and its wishes
 
 
 class Unfit(Exception):
@@ -13,11 +13,12 @@ class Unfit(Exception):
 
 @dataclass
 class Track:
-    """A carrier from its entry to its end; a point is a time in cycles and a position."""
+    """A carrier from its entry to its end; a point is a time in cycles and the position of its front."""
 
     number: int
     points: list
     speed: int
+    length: int
     replaced: list = field(default_factory=list)  # the times of cycles in which the wish was replaced
     end: str = "on the lane"  # or "left", "gone"
 
@@ -75,9 +76,9 @@ def fields(block):
 
 
 def carriers(shown):
-    """Number, position and speed of each carrier, front to back."""
+    """Number, position, speed and length of each carrier, front to back."""
     figures = [int(line.split("=")[1]) for line in shown.splitlines()[2:]]
-    return list(zip(figures[::3], figures[1::3], figures[2::3]))
+    return list(zip(figures[::4], figures[1::4], figures[2::4], figures[3::4]))
 
 
 class Teller:
@@ -112,8 +113,8 @@ class Teller:
         self.story.lane_end = max(self.story.lane_end, lane_end)
 
     def entered(self, place, lane):
-        number, position, speed = lane[place]
-        track = Track(number, [(self.story.time, position)], speed)
+        number, position, speed, length = lane[place]
+        track = Track(number, [(self.story.time, position)], speed, length)
         self.present.insert(place, track)
         self.story.tracks.append(track)
 
@@ -126,7 +127,7 @@ class Teller:
     def driven(self, word, lane):
         before = self.story.time
         self.story.time += 1
-        after = {number: (position, speed) for number, position, speed in lane}
+        after = {number: (position, speed) for number, position, speed, _ in lane}
         for place, track in enumerate(self.present):
             if word >> place & 1:
                 track.replaced.append(before)
@@ -135,10 +136,10 @@ class Teller:
                 track.points.append((self.story.time, position))
             else:
                 track.end = "gone"
-                track.points.append((before + self.share_to_end(track), self.lane_end))
+                track.points.append((before + self.share_to_end(track), self.lane_end + track.length))
         self.present = [track for track in self.present if track.end != "gone"]
 
     def share_to_end(self, track):
-        """About which share of a cycle brings a carrier to the lane end: that at its speed before the cycle."""
+        """About which share of a cycle brings a carrier's tail to the lane end: that at its speed before the cycle."""
         _, position = track.points[-1]
-        return min(1, (self.lane_end - position) / max(1, 2 * track.speed))
+        return min(1, (self.lane_end + track.length - position) / max(1, 2 * track.speed))

@@ -46,6 +46,7 @@ static void same_state(const char *call, const rondavitse_lane *got, const ronda
         same(call, "number", got->records[i].number, wanted->records[i].number);
         same(call, "position", got->records[i].position, wanted->records[i].position);
         same(call, "speed", got->records[i].speed, wanted->records[i].speed);
+        same(call, "length", got->records[i].length, wanted->records[i].length);
     }
 }
 
@@ -77,6 +78,7 @@ static rondavitse_carrier carrier_at(size_t place) {
         .number = 0xA1C2 + 0x0101 * place,
         .position = 0x7A69584C - 0x01010101 * place,
         .speed = 0x0102 + place,
+        .length = 0x8483 + 0x0101 * place,
     };
 }
 
@@ -94,8 +96,25 @@ static rondavitse_lane lane_of(size_t count) {
         lane.records[place].number = c.number;
         lane.records[place].position = c.position;
         lane.records[place].speed = c.speed;
+        lane.records[place].length = c.length;
     }
     return lane;
+}
+
+/* Where the front is of one right behind the carrier at a place. */
+static uint64_t close_behind(const rondavitse_lane *lane, size_t place) {
+    return lane->records[place].position - lane->records[place].length - 1;
+}
+
+/* Writes what the lane text should be; gives its length. */
+static inline size_t wanted_text(char *text, const rondavitse_lane *lane) {
+    size_t length = (size_t)sprintf(text, "cars=%" PRIu64 "\n", lane->count);
+    for (size_t place = 0; place < lane->count; place++) {
+        const rondavitse_record *c = &lane->records[place];
+        length += (size_t)sprintf(text + length, "car=%" PRIu64 "\nat=%" PRIu64 "\nspeed=%" PRIu64 "\nlength=%" PRIu64 "\n", c->number,
+                                  c->position, c->speed, c->length);
+    }
+    return length;
 }
 
 static uint32_t load(rondavitse_lane *lane) {

@@ -17,15 +17,17 @@ SIZE(rondavitse_road, 24);
 FIELD(rondavitse_road, surface, 0, 8);
 FIELD(rondavitse_road, end, 8, 8);
 FIELD(rondavitse_road, limit, 16, 8);
-SIZE(rondavitse_carrier, 24);
+SIZE(rondavitse_carrier, 32);
 FIELD(rondavitse_carrier, number, 0, 8);
 FIELD(rondavitse_carrier, position, 8, 8);
 FIELD(rondavitse_carrier, speed, 16, 8);
+FIELD(rondavitse_carrier, length, 24, 8);
 SIZE(rondavitse_record, 64);
 FIELD(rondavitse_record, number, 0, 8);
 FIELD(rondavitse_record, position, 8, 8);
 FIELD(rondavitse_record, speed, 16, 8);
-FIELD(rondavitse_record, free, 24, 40);
+FIELD(rondavitse_record, length, 24, 8);
+FIELD(rondavitse_record, free, 32, 32);
 SIZE(rondavitse_lane, 5696);
 FIELD(rondavitse_lane, started, 0, 8);
 FIELD(rondavitse_lane, surface, 8, 8);
@@ -132,17 +134,18 @@ static void check_read(void) {
     same_words("read", &lane, &wanted);
 }
 
-/* The first two are so near the end that a cycle takes them past it; those whose bit is set stand close behind one that stands. */
+/* The first two have tails so near the end that a cycle takes them past it; those whose bit is set stand close behind one that stands. */
 static rondavitse_lane lane_before_cycle(uint64_t word) {
     rondavitse_lane lane = lane_of(MOST);
-    lane.end = lane.records[0].position + 1;
+    lane.end = close_behind(&lane, 0) + 2;
     lane.records[0].speed = 0x0407; /* fast enough for the second to be safe behind it */
-    lane.records[1].position = lane.records[0].position - 1;
+    lane.records[1].position = close_behind(&lane, 0);
+    lane.records[1].length = 0x0200; /* short enough for a cycle to take the tail past the end too */
     for (size_t i = 1; i < MOST; i++) {
         if (word >> i & 1) {
             lane.records[i - 1].speed = 0;
             lane.records[i].speed = 0;
-            lane.records[i].position = lane.records[i - 1].position - 1;
+            lane.records[i].position = close_behind(&lane, i - 1);
         }
     }
     return lane;
@@ -179,7 +182,7 @@ static void check_rows_in_force(void) {
     for (size_t code = 0; code < SURFACES; code++) {
         rondavitse_lane lane = lane_of(3);
         lane.surface = code;
-        lane.records[2].position = lane.records[1].position - 1;
+        lane.records[2].position = close_behind(&lane, 1);
         lane.records[2].speed = 40;
         const rondavitse_lane before = lane;
         const rondavitse_cycled got = rondavitse_cycle(&lane, 3, sorts, 3, values, 3);
@@ -195,18 +198,29 @@ static void check_lane_text(void) {
     const rondavitse_lane lane = lane_of(MOST), kept = lane;
     uint8_t text[RONDAVITSE_LONGEST_TEXT];
     char wanted[RONDAVITSE_LONGEST_TEXT + 1];
-    int length = sprintf(wanted, "cars=%d\n", MOST);
-    for (size_t place = 0; place < MOST; place++) {
-        const rondavitse_carrier c = carrier_at(place);
-        length += sprintf(wanted + length, "car=%" PRIu64 "\nat=%" PRIu64 "\nspeed=%" PRIu64 "\n", c.number, c.position, c.speed);
-    }
+    const size_t length = wanted_text(wanted, &lane);
     memset(text, 0x5A, sizeof text);
-    memset(wanted + length, 0x5A, sizeof text - (size_t)length);
+    memset(wanted + length, 0x5A, sizeof text - length);
     const rondavitse_listed got = rondavitse_lane_text(&lane, text, sizeof text);
     same("lane text", "no", got.no, 0);
-    same("lane text", "length", got.length, (uint64_t)length);
+    same("lane text", "length", got.length, length);
     same("lane text", "order of the bytes", (uint64_t)memcmp(text, wanted, sizeof text), 0);
     same_words("lane text", &lane, &kept);
+}
+
+/* Every figure with all its digits, the foremost with its front past the end: the text fills its buffer, and one byte less is too few. */
+static void check_longest_text(void) {
+    rondavitse_lane lane = lane_of(MOST);
+    uint8_t text[RONDAVITSE_LONGEST_TEXT];
+    lane.end = RONDAVITSE_FARTHEST_END;
+    for (size_t place = 0; place < MOST; place++) {
+        rondavitse_record *carrier = &lane.records[place];
+        carrier->length = RONDAVITSE_LONGEST_CARRIER;
+        carrier->position = lane.end - 1 + carrier->length - 0x00102030 * place;
+        carrier->speed = 1000;
+    }
+    same("longest text", "no", rondavitse_lane_text(&lane, text, sizeof text - 1).no, RONDAVITSE_TEXT_BUFFER_TOO_SHORT);
+    same("longest text", "length", rondavitse_lane_text(&lane, text, sizeof text).length, sizeof text);
 }
 
 static uint64_t stop_of(const rondavitse_stepped *stepped) {
@@ -276,6 +290,7 @@ int main(void) {
     check_cycle();
     check_rows_in_force();
     check_lane_text();
+    check_longest_text();
     check_step();
     check_idle_steps();
     return verdict();

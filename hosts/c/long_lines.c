@@ -77,6 +77,7 @@ static void check_blocks(void) {
     check_line(expect_malformed_block, "call=start\nsurface=0\nend=1\nlimit=1\n", "cycle=", '1');
     check_line(expect_malformed_block, "call=enter\n", "car=7", ' ');
     check_line(expect_malformed_block, "call=enter\ncar=7\n", "at=", '0');
+    check_line(expect_malformed_block, "call=enter\ncar=7\nat=0\nspeed=0\n", "length=", '1');
     check_line(expect_malformed_block, "call=leave\n", "car=", '1');
     check_line(expect_malformed_block, "call=cycle\n", "cars=", '1');
     check_line(expect_malformed_block, "call=cycle\ncars=1\n", "want=hold", ' ');

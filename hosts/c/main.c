@@ -2,6 +2,7 @@
  * figures of the terminal's own. It prints a summary that is the same in every run. */
 #include "rondavitse.h"
 
+#include <math.h>
 #include <stdio.h>
 #include <stdlib.h>
 #include <string.h>
@@ -14,7 +15,7 @@ enum {
     LANE_END = 400 * METRE,
     SPEED_LIMIT = 20 * METRE_PER_SECOND,
     SIDE_ROAD = 120 * METRE,
-    LAST_REFUSAL = RONDAVITSE_LANE_OCCUPIED
+    LAST_REFUSAL = RONDAVITSE_LENGTH_TOO_LARGE
 };
 
 /* What the terminal has measured of its concrete, a row for each surface code. */
@@ -34,7 +35,8 @@ typedef struct {
     uint64_t next_number;
     unsigned admitted, replaced, left, gone;
     unsigned refused[LAST_REFUSAL + 1]; /* by the refusal's number */
-    double closest;                     /* the least distance to the carrier ahead, m */
+    double closest;                     /* the least distance to the tail ahead, m */
+    double farthest;                    /* where a front has been, m */
     double fastest;                     /* m/s */
 } host;
 
@@ -61,15 +63,25 @@ static uint32_t load(host *h, size_t length) {
 /* The codes mean the table's rows from the next start on, so it is loaded before. */
 static void start(host *h) {
     const rondavitse_road road = {.surface = DRY, .end = LANE_END, .limit = SPEED_LIMIT};
-    *h = (host){.next_number = 1, .closest = LANE_END};
+    *h = (host){.next_number = 1, .closest = INFINITY};
     rondavitse_empty(&h->lane);
     expect_accepted("load", load(h, strlen(TABLE)));
     expect_accepted("start", rondavitse_start(&h->lane, road, 0));
 }
 
+/* Every third carrier takes a container of 20 feet, the others take one of 40. */
+static uint64_t length_of(uint64_t number) {
+    return (number % 3 == 0 ? 8 : 14) * METRE;
+}
+
 /* A carrier that is refused waits with its number for the next try. */
 static void try_entry(host *h, uint64_t position, uint64_t speed) {
-    const rondavitse_carrier carrier = {.number = h->next_number, .position = position, .speed = speed};
+    const rondavitse_carrier carrier = {
+        .number = h->next_number,
+        .position = position,
+        .speed = speed,
+        .length = length_of(h->next_number),
+    };
     const rondavitse_entered answer = rondavitse_enter(&h->lane, carrier);
     if (answer.no == RONDAVITSE_ACCEPTED) {
         h->next_number++;
@@ -147,17 +159,22 @@ static rondavitse_reading reading_at(const host *h, size_t place) {
     return answer.reading;
 }
 
+static double lower(double one, double other) {
+    return one < other ? one : other;
+}
+
+static double higher(double one, double other) {
+    return one > other ? one : other;
+}
+
 static void watch(host *h) {
-    double ahead = LANE_END;
+    double tail_ahead = INFINITY;
     for (size_t place = 0; place < h->lane.count; place++) {
         const rondavitse_reading reading = reading_at(h, place);
-        if (place > 0 && ahead - reading.position < h->closest) {
-            h->closest = ahead - reading.position;
-        }
-        if (reading.speed > h->fastest) {
-            h->fastest = reading.speed;
-        }
-        ahead = reading.position;
+        h->closest = lower(h->closest, tail_ahead - reading.position);
+        h->farthest = higher(h->farthest, reading.position);
+        h->fastest = higher(h->fastest, reading.speed);
+        tail_ahead = reading.position - (double)h->lane.records[place].length / METRE;
     }
 }
 
@@ -198,7 +215,8 @@ static void print_summary(const host *h) {
     printf("carriers out by the exit: %u\n", h->left);
     printf("carriers gone at the lane end: %u\n", h->gone);
     /* As many digits as 1/2048 and 1/128 have: nothing is rounded. */
-    printf("closest to the carrier ahead: %.11f m\n", h->closest);
+    printf("closest to the tail ahead: %.11f m\n", h->closest);
+    printf("farthest front, on a lane of %d m: %.11f m\n", LANE_END / METRE, h->farthest);
     printf("fastest: %.7f m/s\n", h->fastest);
     printf("the lane now:\n");
     fwrite(text, 1, answer.length, stdout);

@@ -6,12 +6,16 @@
 
 enum { SPEED = 1000 };
 
-/* One carrier, on a dry lane. */
-static rondavitse_lane lane_of_one(void) {
+static rondavitse_lane dry_lane(void) {
     rondavitse_lane lane;
     rondavitse_empty(&lane);
     rondavitse_start(&lane, (rondavitse_road){.surface = 0, .end = RONDAVITSE_FARTHEST_END, .limit = RONDAVITSE_FASTEST}, 0);
-    rondavitse_enter(&lane, (rondavitse_carrier){.number = 1, .position = 0, .speed = SPEED});
+    return lane;
+}
+
+static rondavitse_lane lane_of_one(void) {
+    rondavitse_lane lane = dry_lane();
+    rondavitse_enter(&lane, (rondavitse_carrier){.number = 1, .position = 0, .speed = SPEED, .length = 0});
     return lane;
 }
 
@@ -33,6 +37,35 @@ static void check_all_units(void) {
     for (size_t i = 0; i < sizeof past / sizeof past[0]; i++) {
         check_units(past[i], RONDAVITSE_WISH_UNKNOWN, 0);
     }
+}
+
+/* An entry with this length gives `no`, by the call and by a block. */
+static void check_length(uint64_t length, uint32_t no, const char *answer) {
+    uint8_t out[RONDAVITSE_ANSWER_BUFFER];
+    char block[128];
+    rondavitse_lane by_call = dry_lane(), by_block = by_call;
+    const int bytes = sprintf(block, "call=enter\ncar=1\nat=0\nspeed=0\nlength=%" PRIu64 "\n", length);
+    same("length", "no", rondavitse_enter(&by_call, (rondavitse_carrier){.number = 1, .length = length}).no, no);
+    same("length", "written", rondavitse_step(&by_block, (const uint8_t *)block, (size_t)bytes, 0, out, sizeof out).written, strlen(answer));
+    same("length", "answer", (uint64_t)memcmp(out, answer, strlen(answer)), 0);
+    same("length", "carriers", by_call.count, no == RONDAVITSE_ACCEPTED);
+    same("length", "carriers by a block", by_block.count, no == RONDAVITSE_ACCEPTED);
+    if (no == RONDAVITSE_ACCEPTED) {
+        same("length", "in the lane", by_call.records[0].length, length);
+        same("length", "in the lane by a block", by_block.records[0].length, length);
+    }
+}
+
+/* A block's line holds 32 bits and is malformed past them; those of a call are 64. */
+static void check_lengths(void) {
+    const uint64_t wide = UINT64_C(1) << 32;
+    check_length(0, RONDAVITSE_ACCEPTED, "ok=enter\nplace=0\n");
+    check_length(RONDAVITSE_LONGEST_CARRIER, RONDAVITSE_ACCEPTED, "ok=enter\nplace=0\n");
+    check_length(RONDAVITSE_LONGEST_CARRIER + 1, RONDAVITSE_LENGTH_TOO_LARGE, "no=33\n");
+    check_length(wide - 1, RONDAVITSE_LENGTH_TOO_LARGE, "no=33\n");
+    check_length(wide, RONDAVITSE_LENGTH_TOO_LARGE, "no=8\n");
+    check_length(wide + 100, RONDAVITSE_LENGTH_TOO_LARGE, "no=8\n");
+    check_length(UINT64_MAX, RONDAVITSE_LENGTH_TOO_LARGE, "no=8\n");
 }
 
 /* Each line of a table text with this number gives `no`. */
@@ -63,7 +96,7 @@ static void check_floats(void) {
 
 static void check_words(void) {
     for (uint32_t no = 0; no < 100; no++) {
-        const bool known = no <= 13 || (no >= 21 && no <= 28) || no == 31 || no == 32;
+        const bool known = no <= 13 || (no >= 21 && no <= 28) || (no >= 31 && no <= 33);
         same("words", "known", strcmp(rondavitse_words(no), "unknown refusal") != 0, known);
     }
     same("words", "of the largest number", (uint64_t)strcmp(rondavitse_words(UINT32_MAX), "unknown refusal"), 0);
@@ -71,6 +104,7 @@ static void check_words(void) {
 
 int main(void) {
     check_all_units();
+    check_lengths();
     check_table_numbers();
     check_floats();
     check_words();

@@ -55,16 +55,37 @@ static void refused_cycle(uint32_t no, size_t count, const uint8_t *sorts, size_
     same_words("refused cycle", &lane, &kept);
 }
 
+/* The step itself is not refused: the number is in its answer. */
+static void refused_block(uint32_t no, const char *block, rondavitse_lane lane) {
+    uint8_t out[RONDAVITSE_ANSWER_BUFFER], wanted[RONDAVITSE_ANSWER_BUFFER];
+    const rondavitse_lane kept = lane;
+    memset(out, 0x5A, sizeof out);
+    memcpy(wanted, out, sizeof out);
+    const size_t length = (size_t)sprintf((char *)wanted, "no=%u\n", (unsigned)no);
+    wanted[length] = 0x5A;
+    const rondavitse_stepped got = rondavitse_step(&lane, (const uint8_t *)block, strlen(block), 0, out, sizeof out);
+    same("refused block", "no", got.no, 0);
+    same("refused block", "next", got.next, strlen(block));
+    same("refused block", "written", got.written, length);
+    same("refused block", "stop", got.stop, 0);
+    same("refused block", "bytes", (uint64_t)memcmp(out, wanted, sizeof out), 0);
+    same_words("refused block", &lane, &kept);
+}
+
 /* Each argument by itself is of no use; 21 comes first all the same. */
 static void check_21(rondavitse_lane lane) {
     const uint8_t no_sorts[] = {4, 4};
     if (lane.started == 1) {
         refused_load(21, "", 0, lane);
     }
-    refused_enter(21, (rondavitse_carrier){0, 0, 0}, lane);
+    refused_enter(21, (rondavitse_carrier){0, 0, 0, UINT64_MAX}, lane);
     refused_named(21, 0, lane);
     refused_text(21, lane);
     refused_cycle(21, 3, no_sorts, 1, lane);
+    refused_block(21, "call=enter\ncar=0\nat=0\nspeed=0\nlength=65536\n", lane);
+    refused_block(21, "call=leave\ncar=0\n", lane);
+    refused_block(21, "call=cycle\ncars=1\nwant=accel:7FC00000\n", lane);
+    refused_block(21, "call=show\n", lane);
 }
 
 /* A load takes a lane that was never started for an empty and sound one, whatever it holds. */
@@ -86,12 +107,29 @@ static void check_never_started(void) {
 
 static void check_unsound(void) {
     check_21(unsound_lane());
-    for (size_t i = 0; i < 7; i++) {
+    for (size_t i = 0; i < 8; i++) {
         rondavitse_lane lane = lane_of(2);
         rondavitse_record *rear = &lane.records[1];
-        uint64_t *figures[] = {&lane.surface, &lane.end, &lane.limit, &lane.count, &rear->number, &rear->position, &rear->speed};
+        uint64_t *figures[] = {&lane.surface, &lane.end,       &lane.limit,  &lane.count,
+                               &rear->number, &rear->position, &rear->speed, &rear->length};
         *figures[i] += UINT64_C(1) << 32;
         check_21(lane);
+    }
+}
+
+/* Lengths past the longest, one of which would put the tail before the end if a sum of 64 bits were cut; then a tail at the end, and a front
+ * level with the tail ahead. A start looks at none of it. */
+static void check_unsound_tails(void) {
+    rondavitse_lane lanes[] = {lane_of(2), lane_of(2), lane_of(2), lane_of(2), lane_of(2)};
+    lanes[0].records[0].length = RONDAVITSE_LONGEST_CARRIER + 1;
+    lanes[1].records[1].length = RONDAVITSE_LONGEST_CARRIER + 1;
+    lanes[2].records[1].length = UINT64_MAX;
+    lanes[3].records[0].position = ROAD.end + lanes[3].records[0].length;
+    lanes[4].records[1].position = close_behind(&lanes[4], 0) + 1;
+    lanes[4].records[1].speed = 0;
+    for (size_t i = 0; i < sizeof lanes / sizeof lanes[0]; i++) {
+        check_21(lanes[i]);
+        same("start", "no", rondavitse_start(&lanes[i], ROAD, CYCLE), 0);
     }
 }
 
@@ -148,21 +186,35 @@ static void check_refused_loads(void) {
     }
 }
 
+/* 33 comes after 6 and before 22 and 23; 5 looks at the front, 25 and 26 at tails. */
+static void check_refused_entries(void) {
+    const uint64_t wide = UINT64_C(1) << 32, longest = RONDAVITSE_LONGEST_CARRIER;
+    const rondavitse_lane lane = lane_of(2);
+    const rondavitse_carrier rear = carrier_at(1);
+    const uint64_t number = carrier_at(7).number;
+    refused_enter(4, (rondavitse_carrier){0, 0, 0, 0}, lane);
+    refused_enter(4, (rondavitse_carrier){RONDAVITSE_HIGHEST_NUMBER + 1, wide, wide, wide}, lane);
+    refused_enter(5, (rondavitse_carrier){number, wide, wide, wide}, lane);
+    refused_enter(5, (rondavitse_carrier){number, ROAD.end, 0, longest}, lane);
+    refused_enter(6, (rondavitse_carrier){number, 0, wide, wide}, lane);
+    refused_enter(33, (rondavitse_carrier){number, 0, 0, longest + 1}, lane);
+    refused_enter(33, (rondavitse_carrier){number, 0, 0, wide}, lane);
+    refused_enter(33, (rondavitse_carrier){rear.number, rear.position, 0, UINT64_MAX}, lane_of(MOST));
+    refused_enter(22, rear, lane_of(MOST));
+    refused_enter(23, rear, lane);
+    refused_enter(25, (rondavitse_carrier){number, close_behind(&lane, 1) + 1, 0, 0}, lane);
+    refused_enter(26, (rondavitse_carrier){number, rear.position + longest, ROAD.limit, longest}, lane);
+}
+
 static void check_refused_arguments(void) {
     const uint64_t wide = UINT64_C(1) << 32;
     const rondavitse_lane lane = lane_of(2);
-    const uint64_t number = carrier_at(7).number;
     refused_start(1, (rondavitse_road){wide, 1, 1}, lane);
     refused_start(2, (rondavitse_road){7, wide + 1, 1}, lane);
     refused_start(3, (rondavitse_road){7, RONDAVITSE_FARTHEST_END, wide + RONDAVITSE_FASTEST}, lane);
-    refused_enter(4, (rondavitse_carrier){0, 0, 0}, lane);
-    refused_enter(4, (rondavitse_carrier){RONDAVITSE_HIGHEST_NUMBER + 1, 0, 0}, lane);
-    refused_enter(5, (rondavitse_carrier){number, wide, 0}, lane);
-    refused_enter(6, (rondavitse_carrier){number, 0, wide}, lane);
-    refused_enter(23, carrier_at(1), lane);
     refused_named(4, 0, lane);
     refused_named(4, carrier_at(1).number + wide, lane);
-    refused_named(24, number, lane);
+    refused_named(24, carrier_at(7).number, lane);
     refused_text(9, lane);
 }
 
@@ -182,9 +234,11 @@ static void check_refused_cycles(void) {
 int main(void) {
     check_never_started();
     check_unsound();
+    check_unsound_tails();
     check_unsound_rows();
     check_refused_lines();
     check_refused_loads();
+    check_refused_entries();
     check_refused_arguments();
     check_refused_cycles();
     return verdict();

@@ -69,7 +69,9 @@ int main() {
         table += "b=60\nB=120\nA=30\n";
     }
     Lane lane(table, {0, 10000, 1000}, 0);
-    for (const rondavitse_carrier carrier : {rondavitse_carrier{7, 1000, 0}, {8, 700, 64}, {9, 700, 64}}) {
+    // The third is behind the second's front and not behind its tail; the fourth's length would be 100 if it were cut.
+    for (const rondavitse_carrier carrier :
+         {rondavitse_carrier{7, 1000, 0, 200}, {8, 700, 64, 100}, {9, 650, 0, 100}, {10, 500, 0, UINT64_C(4294967396)}}) {
         try {
             std::printf("carrier %" PRIu64 " enters at place %zu\n", carrier.number, lane.enter(carrier));
         } catch (const Refused &refusal) {

@@ -6,7 +6,7 @@ import ctypes
 import sys
 from ctypes import byref, c_char_p, c_double, c_size_t, c_uint8, c_uint32, c_uint64
 
-VERSION, SURFACES, WORDS_OF_A_LANE = 2, 8, 712  # of the interface that the structs below are of
+VERSION, SURFACES, WORDS_OF_A_LANE = 3, 8, 712  # of the interface that the structs below are of
 UNITS, HOLD = 0, 3
 
 
@@ -15,7 +15,8 @@ def struct(**fields):
 
 
 Lane = c_uint64 * WORDS_OF_A_LANE
-Three = struct(first=c_uint64, second=c_uint64, third=c_uint64)  # a road or a carrier
+Road = struct(surface=c_uint64, end=c_uint64, limit=c_uint64)
+Carrier = struct(number=c_uint64, position=c_uint64, speed=c_uint64, length=c_uint64)
 Entered = struct(no=c_uint32, place=c_size_t)
 Cycled = struct(no=c_uint32, word=c_uint64, replaced=c_uint32, gone=c_uint32)
 ReadOut = struct(no=c_uint32, position=c_double, speed=c_double)
@@ -47,7 +48,7 @@ class Supervisor:
             raise ImportError(f"{path} is of another version")
         self.called("empty", None, byref(self.lane))
         self.check(self.called("load", c_uint32, byref(self.lane), table, c_size_t(len(table))))
-        self.check(self.called("start", c_uint32, byref(self.lane), Three(*map(wide, road)), wide(first)))
+        self.check(self.called("start", c_uint32, byref(self.lane), Road(*map(wide, road)), wide(first)))
 
     def called(self, name, result, *arguments):
         function = self.library["rondavitse_" + name]
@@ -63,8 +64,8 @@ class Supervisor:
         self.check(answer.no)
         return answer
 
-    def enter(self, number, position, speed):
-        return self.answer("enter", Entered, Three(wide(number), wide(position), wide(speed))).place
+    def enter(self, number, position, speed, length):
+        return self.answer("enter", Entered, Carrier(*map(wide, (number, position, speed, length)))).place
 
     def cycle(self, wishes):
         count = c_size_t(len(wishes))
@@ -78,7 +79,8 @@ class Supervisor:
 def main(path):
     table = b"b=60\nB=120\nA=30\n" * SURFACES  # of a terminal on which all surfaces are alike
     lane = Supervisor(path, table, (0, 10000, 1000), 0)
-    for carrier in ((7, 1000, 0), (8, 700, 64), (9, 700, 64)):
+    # The third is behind the second's front and not behind its tail; the fourth's length would be 100 if it were cut.
+    for carrier in ((7, 1000, 0, 200), (8, 700, 64, 100), (9, 650, 0, 100), (10, 500, 0, 4294967396)):
         try:
             print(f"carrier {carrier[0]} enters at place {lane.enter(*carrier)}")
         except Refused as refusal:

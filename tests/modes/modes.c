@@ -44,11 +44,13 @@ static void expect(int holds, const char *what, unsigned mode, uint32_t bits) {
     }
 }
 
+/* A carrier with its front maybe past the end, where none can enter. */
 static rondavitse_lane lane_with(uint64_t position, uint64_t speed) {
     rondavitse_lane lane;
     rondavitse_empty(&lane);
     rondavitse_start(&lane, (rondavitse_road){0, RONDAVITSE_FARTHEST_END, RONDAVITSE_FASTEST}, 0);
-    rondavitse_enter(&lane, (rondavitse_carrier){1, position, speed});
+    rondavitse_enter(&lane, (rondavitse_carrier){1, 0, speed, RONDAVITSE_LONGEST_CARRIER});
+    lane.records[0].position = position;
     return lane;
 }
 
@@ -133,6 +135,7 @@ int main(void) {
         compare_readings(position, position % RONDAVITSE_FASTEST);
         compare_readings(position, 0);
     }
+    compare_readings(RONDAVITSE_FARTHEST_END + RONDAVITSE_LONGEST_CARRIER - 1, RONDAVITSE_FASTEST);
     printf("%lu differ\n", differing);
     return differing == 0 ? EXIT_SUCCESS : EXIT_FAILURE;
 }

@@ -1,10 +1,10 @@
 //! The functions and structs of `rondavitse.h`.
 
 /// The interface that this file is for.
-pub const VERSION: u32 = 2;
+pub const VERSION: u32 = 3;
 pub const SURFACES: usize = 8;
 pub const MOST_CARRIERS: usize = 64;
-pub const LONGEST_TEXT: usize = 2_248;
+pub const LONGEST_TEXT: usize = 3_080;
 pub const ANSWER_BUFFER: usize = 4_096;
 
 #[repr(C)]
@@ -19,8 +19,11 @@ pub struct Road {
 #[derive(Clone, Copy, Debug, Default, PartialEq, Eq)]
 pub struct Carrier {
     pub number: u64,
+    /// Of its front.
     pub position: u64,
     pub speed: u64,
+    /// From front to tail, in position units.
+    pub length: u64,
 }
 
 /// What a surface code stands for, in 1/16 m/s²: guaranteed braking, hardest
@@ -34,12 +37,13 @@ pub struct Row {
     pub free: [u64; 5],
 }
 
-/// A carrier as it stands in the lane.
+/// A carrier as it stands in the lane: its front may be past the lane end, its
+/// tail is before it.
 #[repr(C)]
 #[derive(Clone, Copy, Debug, Default, PartialEq, Eq)]
 pub struct Record {
     pub carrier: Carrier,
-    pub free: [u64; 5],
+    pub free: [u64; 4],
 }
 
 /// The first `count` records are the carriers, front to back.

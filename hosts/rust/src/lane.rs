@@ -23,7 +23,7 @@ pub struct Cycled {
     /// Bit i: the wish of place i was replaced by guaranteed braking.
     pub word: u64,
     pub replaced: u32,
-    /// Carriers that ran out at the lane end.
+    /// Carriers whose tail has reached the lane end.
     pub gone: u32,
 }
 
@@ -104,7 +104,7 @@ impl Lane {
         })
     }
 
-    /// Where a carrier is and how fast.
+    /// Where a carrier's front is and how fast it drives.
     pub fn read(&self, number: u64) -> Result<Reading, Refusal> {
         let answer = unsafe { rondavitse_read(&self.0, number) };
         Refusal::check(answer.no)?;

@@ -3,7 +3,7 @@
 //! terminal's own. It prints a summary that is the same in every run, and the
 //! same as that of the host in C.
 
-use rondavitse::{Carrier, Lane, Reading, Refusal, Road, Wish};
+use rondavitse::{Carrier, Lane, Refusal, Road, Wish};
 use std::collections::BTreeMap;
 
 /// Positions count 1/2048 m, speeds 1/128 m/s.
@@ -36,8 +36,10 @@ struct Host {
     replaced: u32,
     left: u32,
     gone: u32,
-    /// The least distance to the carrier ahead, in metres.
+    /// The least distance to the tail ahead, in metres.
     closest: f64,
+    /// Where a front has been, in metres.
+    farthest: f64,
     /// In m/s.
     fastest: f64,
 }
@@ -58,6 +60,7 @@ impl Host {
             left: 0,
             gone: 0,
             closest: f64::INFINITY,
+            farthest: 0.0,
             fastest: 0.0,
         })
     }
@@ -77,6 +80,7 @@ impl Host {
             number: self.next_number,
             position,
             speed,
+            length: length_of(self.next_number),
         };
         match self.lane.enter(newcomer) {
             Ok(_) => {
@@ -98,20 +102,14 @@ impl Host {
         Ok(())
     }
 
-    fn readings(&self) -> Result<Vec<Reading>, Refusal> {
-        let carriers = self.lane.carriers();
-        carriers
-            .map(|carrier| self.lane.read(carrier.number))
-            .collect()
-    }
-
     fn watch(&mut self) -> Result<(), Refusal> {
-        let readings = self.readings()?;
-        for pair in readings.windows(2) {
-            self.closest = self.closest.min(pair[0].position - pair[1].position);
-        }
-        for reading in readings {
+        let mut tail_ahead = f64::INFINITY;
+        for carrier in self.lane.carriers() {
+            let reading = self.lane.read(carrier.number)?;
+            self.closest = self.closest.min(tail_ahead - reading.position);
+            self.farthest = self.farthest.max(reading.position);
             self.fastest = self.fastest.max(reading.speed);
+            tail_ahead = reading.position - carrier.length as f64 / METRE as f64;
         }
         Ok(())
     }
@@ -146,11 +144,21 @@ impl Host {
         println!("carriers out by the exit: {}", self.left);
         println!("carriers gone at the lane end: {}", self.gone);
         // As many digits as 1/2048 and 1/128 have: nothing is rounded.
-        println!("closest to the carrier ahead: {:.11} m", self.closest);
+        println!("closest to the tail ahead: {:.11} m", self.closest);
+        let lane_end = ROAD.end / METRE;
+        println!(
+            "farthest front, on a lane of {lane_end} m: {:.11} m",
+            self.farthest
+        );
         println!("fastest: {:.7} m/s", self.fastest);
         print!("the lane now:\n{}", self.lane.text()?);
         Ok(())
     }
+}
+
+/// Every third carrier takes a container of 20 feet, the others take one of 40.
+fn length_of(number: u64) -> u64 {
+    METRE * if number.is_multiple_of(3) { 8 } else { 14 }
 }
 
 /// By the carrier's number; but now and then the foremost brakes for six seconds.

@@ -30,12 +30,13 @@ pub enum Refusal {
     CyclesExhausted = 28,
     TableUnsound = 31,
     LaneOccupied = 32,
+    LengthTooLarge = 33,
 }
 
 use Refusal::*;
 
 /// Every refusal and what it says.
-const WORDS: [(Refusal, &str); 23] = [
+const WORDS: [(Refusal, &str); 24] = [
     (SurfaceUnknown, "surface above 7"),
     (EndOutOfRange, "lane end outside 1 to 2^31"),
     (LimitOutOfRange, "limit outside 1 to 8,192"),
@@ -68,6 +69,7 @@ const WORDS: [(Refusal, &str); 23] = [
     (CyclesExhausted, "cycle number is 2^64 - 1"),
     (TableUnsound, "malformed table text, or an unsound row"),
     (LaneOccupied, "carriers are on the lane"),
+    (LengthTooLarge, "length above 65,535"),
 ];
 
 impl Refusal {
