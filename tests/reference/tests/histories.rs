@@ -56,7 +56,7 @@ fn histories_reach_every_refusal_and_every_answer() {
             full += u32::from(lane.0.count == 64);
         }
     }
-    let every = (1..=7).chain([9]).chain(21..=28).chain([31, 32]).collect();
+    let every = (1..=7).chain([9]).chain(21..=28).chain(31..=33).collect();
     assert_eq!(refusals, every);
     assert_eq!(sorts.len(), 6, "{sorts:?}");
     assert!(full > 1_000 && gone > 1_000 && replaced > 10_000 && last_bit > 100);
@@ -138,7 +138,7 @@ fn arguments_above_their_width_are_refused() {
         let answer = after.call(&wide);
         let numbers: &[u32] = match wide {
             Call::Start { .. } => &[1, 2, 3],
-            Call::Enter { .. } => &[4, 5, 6],
+            Call::Enter { .. } => &[4, 5, 6, 33],
             Call::Leave { .. } | Call::Read { .. } => &[4],
             Call::Cycle { .. } | Call::LaneText { .. } | Call::Load { .. } => continue,
         };
