@@ -48,23 +48,24 @@ pub fn closing_up(random: &mut Random, lane: &Lane) -> Carrier {
         }
         None => near_end(random, lane).min(lane.road.end.saturating_sub(1)),
     };
-    Carrier {
+    let mut newcomer = Carrier {
         number,
         position,
         speed,
-        length: modest_length(random, lane, position),
-    }
+        length: sound_length(random),
+    };
+    newcomer.length = closing_length(random, lane, newcomer);
+    newcomer
 }
 
-/// A length that leaves as much room to each carrier that may still follow; now
-/// and then any, and nobody can follow if its tail is before the start.
-fn modest_length(random: &mut Random, lane: &Lane, position: u64) -> u64 {
-    let length = sound_length(random);
+/// Mostly a length that leaves as much room to each carrier that may still
+/// follow; nobody can follow if the tail is before the start.
+fn closing_length(random: &mut Random, lane: &Lane, newcomer: Carrier) -> u64 {
     let others = (PLACES - lane.present().len()).max(1) as u64;
-    if random.chance(96) {
-        length.min(position / others)
-    } else {
-        length
+    match random.below(24) {
+        0 => newcomer.length,
+        1..=4 if lane.count == 0 => edge_length(random, lane, newcomer).min(LONGEST_CARRIER),
+        _ => newcomer.length.min(newcomer.position / others),
     }
 }
 

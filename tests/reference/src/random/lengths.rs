@@ -21,16 +21,19 @@ pub fn length(random: &mut Random) -> u64 {
     }
 }
 
-/// A length that puts the carrier's tail about the lane's start, or about its
-/// end after a cycle without acceleration, as far as lengths go.
+/// A length that puts the carrier's tail about the lane's end after a cycle
+/// without acceleration, or about its start, as far as lengths go.
 pub fn edge_length(random: &mut Random, lane: &Lane, carrier: Carrier) -> u64 {
     let point = Carrier {
         length: 0,
         ..carrier
     };
-    let to_start = i128::from(carrier.position);
-    let to_end = -just_gone(lane.road.end, point);
-    let edge = random.pick(&[to_start, to_end]);
+    let past_end = -just_gone(lane.road.end, point);
+    let edge = if past_end >= 0 && random.chance(80) {
+        past_end
+    } else {
+        carrier.position.into()
+    };
     to_length(edge + i128::from(random.between(-1, 1)))
 }
 
