@@ -1,7 +1,5 @@
 //! How often random histories meet the edges that lengths bring.
 
-mod common;
-
 use lane_reference::headway::{front_at_rest, tail_at_rest};
 use lane_reference::random::{history, sound_lane, unsound_lane, History, Random};
 use lane_reference::stopping::Fast;
@@ -24,159 +22,130 @@ fn gaps(row: &Row, follower: Carrier, leader: Carrier) -> [i64; 2] {
     ]
 }
 
-fn row_of(lane: &Lane) -> Option<Row> {
-    lane.sound_row::<Fast>().ok()
-}
+type Edges = Vec<(&'static str, bool)>;
 
-/// Entries by the length alone.
-fn length_edges(lane: &Lane, newcomer: Carrier, no: u32) -> Vec<(&'static str, bool)> {
-    let (length, end) = (newcomer.length, lane.road.end);
-    let tail = i128::from(newcomer.position) - i128::from(length);
+/// Entries that are accepted, by the length alone.
+fn accepted_lengths(lane: &Lane, newcomer: Carrier) -> Edges {
+    let Carrier {
+        position, length, ..
+    } = newcomer;
+    let last = position + 1 == lane.road.end;
+    let (long, tail) = (length > 0, newcomer.tail());
     vec![
-        ("enter: length 0 accepted", no == 0 && length == 0),
-        ("enter: length 1 accepted", no == 0 && length == 1),
-        ("enter: length 65,534 accepted", no == 0 && length == 65_534),
-        ("enter: length 65,535 accepted", no == 0 && length == 65_535),
-        ("enter: 33 for 65,536", no == 33 && length == 65_536),
-        (
-            "enter: 33 for 2^32 - 1",
-            no == 33 && length == u32::MAX.into(),
-        ),
-        ("enter: 33 on a full lane", no == 33 && lane.count == 64),
-        (
-            "enter: 33 for a number present",
-            no == 33 && lane.look_up(newcomer.number).place.is_some(),
-        ),
-        ("enter: 22 at 65,535", no == 22 && length == 65_535),
-        ("enter: 6 and too long", no == 6 && length > 65_535),
-        (
-            "enter: 5 with the tail before the end",
-            no == 5 && tail < end.into(),
-        ),
-        (
-            "enter: at end - 1 with a length",
-            no == 0 && newcomer.position + 1 == end && length > 0,
-        ),
-        (
-            "enter: tail one past the start",
-            no == 0 && tail == 1 && length > 0,
-        ),
-        (
-            "enter: tail at the start",
-            no == 0 && tail == 0 && length > 0,
-        ),
-        ("enter: tail one before the start", no == 0 && tail == -1),
-        ("enter: tail far before the start", no == 0 && tail < -1_000),
+        ("enter: length 0", length == 0),
+        ("enter: length 1", length == 1),
+        ("enter: length 65,534", length == 65_534),
+        ("enter: length 65,535", length == 65_535),
+        ("enter: at end - 1 with a length", last && long),
+        ("enter: tail one past the start", long && tail == 1),
+        ("enter: tail at the start", long && tail == 0),
+        ("enter: tail one before the start", tail == -1),
+        ("enter: tail far before the start", tail < -1_000),
     ]
 }
 
-/// Entries by their neighbours, where a length plays a part.
-fn gap_edges(lane: &Lane, row: &Row, newcomer: Carrier, no: u32) -> Vec<(&'static str, bool)> {
+/// Entries that are refused for their figures or before 25, by the length alone.
+fn refused_lengths(lane: &Lane, newcomer: Carrier, no: u32) -> Edges {
+    let Carrier {
+        position, length, ..
+    } = newcomer;
+    let tail_within = position < lane.road.end.saturating_add(length);
+    let most = length == u32::MAX.into();
+    let full = lane.count == 64;
+    let present = lane.look_up(newcomer.number).place.is_some();
+    vec![
+        ("33: length 65,536", no == 33 && length == 65_536),
+        ("33: length 2^32 - 1", no == 33 && most),
+        ("33: on a full lane", no == 33 && full),
+        ("33: a number present", no == 33 && present),
+        ("22: length 65,535", no == 22 && length == 65_535),
+        ("6: and too long", no == 6 && length > 65_535),
+        ("5: the tail before the end", no == 5 && tail_within),
+    ]
+}
+
+/// Entries by the carrier ahead, which has a length.
+fn ahead_edges(row: &Row, newcomer: Carrier, leader: Carrier, no: u32) -> Edges {
+    let [now, at_rest] = gaps(row, newcomer, leader);
+    let level = leader.position == newcomer.position;
+    vec![
+        ("enter: one below the tail ahead", no == 0 && now == 1),
+        ("enter: rests one below it", no == 0 && at_rest == 1),
+        ("25: level with the tail", no == 25 && now == 0),
+        ("25: one past the tail", no == 25 && now == -1),
+        ("25: along the carrier", no == 25 && now < -1),
+        ("25: level with the front", no == 25 && level),
+        ("25: rests level with the tail", no == 25 && at_rest == 0),
+        ("25: behind no room", no == 25 && leader.tail() <= 0),
+    ]
+}
+
+/// Entries with a length by the carrier behind.
+fn behind_edges(row: &Row, newcomer: Carrier, follower: Carrier, no: u32) -> Edges {
+    let [now, at_rest] = gaps(row, follower, newcomer);
+    vec![
+        ("enter: tail one above the one behind", no == 0 && now == 1),
+        ("enter: tail rests one above it", no == 0 && at_rest == 1),
+        ("26: tail level with the one behind", no == 26 && now == 0),
+        ("26: tail rests level with it", no == 26 && at_rest == 0),
+        ("26: tail past the one behind", no == 26 && now < 0),
+    ]
+}
+
+fn entry_edges(lane: &Lane, row: &Row, newcomer: Carrier, no: u32) -> Edges {
     let present = lane.present();
     let walked = present
         .iter()
         .position(|carrier| carrier.position < newcomer.position);
     let place = walked.unwrap_or(present.len());
+    let mut edges = refused_lengths(lane, newcomer, no);
+    if no == 0 {
+        edges.extend(accepted_lengths(lane, newcomer));
+    }
+    if ![0, 25, 26].contains(&no) {
+        return edges;
+    }
     let leader = place.checked_sub(1).map(|ahead| present[ahead]);
-    let leader = leader.filter(|leader| leader.length > 0);
-    let follower = present.get(place).filter(|_| newcomer.length > 0);
-    let ahead = leader.map(|leader| gaps(row, newcomer, leader));
-    let behind = follower.map(|&follower| gaps(row, follower, newcomer));
-    let is = |gaps: Option<[i64; 2]>, which: usize, gap: i64| {
-        gaps.is_some_and(|gaps| gaps[which] == gap)
-    };
-    let no_room = leader.is_some_and(|leader| leader.tail() <= 0);
-    vec![
-        (
-            "enter: one below the tail ahead",
-            no == 0 && is(ahead, 0, 1),
-        ),
-        (
-            "enter: rests one below the tail ahead",
-            no == 0 && is(ahead, 1, 1),
-        ),
-        ("25: level with the tail", no == 25 && is(ahead, 0, 0)),
-        ("25: one past the tail", no == 25 && is(ahead, 0, -1)),
-        (
-            "25: along the carrier",
-            no == 25 && ahead.is_some_and(|gaps| gaps[0] < -1),
-        ),
-        (
-            "25: level with the front",
-            no == 25 && leader.is_some_and(|leader| leader.position == newcomer.position),
-        ),
-        ("25: rests level with the tail", no == 25 && is(ahead, 1, 0)),
-        (
-            "25: behind a tail at or before the start",
-            no == 25 && no_room,
-        ),
-        (
-            "enter: its tail one above the front behind",
-            no == 0 && is(behind, 0, 1),
-        ),
-        (
-            "enter: its tail rests one above",
-            no == 0 && is(behind, 1, 1),
-        ),
-        (
-            "26: its tail level with the front behind",
-            no == 26 && is(behind, 0, 0),
-        ),
-        ("26: its tail rests level", no == 26 && is(behind, 1, 0)),
-        (
-            "26: its tail past the front behind",
-            no == 26 && behind.is_some_and(|gaps| gaps[0] < 0),
-        ),
-    ]
+    if let Some(leader) = leader.filter(|leader| leader.length > 0) {
+        edges.extend(ahead_edges(row, newcomer, leader, no));
+    }
+    if let Some(&follower) = present.get(place).filter(|_| newcomer.length > 0) {
+        edges.extend(behind_edges(row, newcomer, follower, no));
+    }
+    edges
 }
 
 /// The wishes of a cycle that ran, and who is gone after it.
-fn count_cycle(met: &mut Met, before: &Lane, row: &Row, wishes: &[Wish; PLACES], word: u64) {
-    let present = before.present();
+fn cycle_edges(lane: &Lane, row: &Row, wishes: &[Wish; PLACES], word: u64) -> Edges {
+    let (present, road) = (lane.present(), lane.road);
+    let mut edges = Vec::new();
     for (place, &carrier) in present.iter().enumerate() {
-        let limit = before.road.limit;
-        let wished = wishes[place].trimmed(row, limit, carrier).expect("it ran");
+        let wished = wishes[place].trimmed(row, road.limit, carrier);
+        let wished = wished.expect("the cycle ran");
         let replaced = word >> place & 1 == 1;
         let leader = place.checked_sub(1).map(|ahead| present[ahead]);
         if let Some(leader) = leader.filter(|leader| leader.length > 0) {
             let gap = gaps(row, carrier.after(wished), leader)[1];
-            add(
-                met,
-                "wish: stands, rests one below the tail",
-                !replaced && gap == 1,
-            );
-            add(
-                met,
-                "wish: replaced, rests level with the tail",
-                replaced && gap == 0,
-            );
-            add(
-                met,
-                "wish: replaced, one past the tail",
-                replaced && gap == -1,
-            );
-            add(
-                met,
-                "wish: behind a front past the end",
-                leader.position >= before.road.end,
-            );
+            let past = leader.position >= road.end;
+            edges.extend([
+                ("wish: stands, one below the tail", !replaced && gap == 1),
+                ("wish: replaced, level with it", replaced && gap == 0),
+                ("wish: replaced, one past it", replaced && gap == -1),
+                ("wish: behind a front past the end", past),
+            ]);
         }
         let braking = carrier.braking(row.guaranteed_braking);
         let moved = carrier.after(if replaced { braking } else { wished });
-        let (long, to_end) = (carrier.length > 0, moved.tail() - before.road.end as i64);
-        add(met, "gone: the tail at the end", long && to_end == 0);
-        add(met, "gone: the tail one past the end", long && to_end == 1);
-        add(
-            met,
-            "stays: the tail one before the end",
-            long && to_end == -1,
-        );
-        add(
-            met,
-            "stays: the front past the end",
-            to_end < 0 && moved.position >= before.road.end,
-        );
+        let to_end = moved.tail() - road.end as i64;
+        let (long, past) = (carrier.length > 0, moved.position >= road.end);
+        edges.extend([
+            ("gone: the tail at the end", long && to_end == 0),
+            ("gone: the tail one past the end", long && to_end == 1),
+            ("stays: the tail one before the end", long && to_end == -1),
+            ("stays: the front past the end", past && to_end < 0),
+        ]);
     }
+    edges
 }
 
 /// Each call on a lane whose foremost carrier has its front past the end.
@@ -197,37 +166,29 @@ fn past_end_call(call: &Call, outcome: &Outcome) -> &'static str {
     }
 }
 
-fn add(met: &mut Met, edge: &'static str, there: bool) {
-    *met.entry(edge).or_insert(0) += u32::from(there);
+fn add(met: &mut Met, edges: Edges) {
+    for (edge, there) in edges {
+        *met.entry(edge).or_insert(0) += u32::from(there);
+    }
 }
 
-fn count_call(met: &mut Met, before: &Lane, call: &Call, outcome: &Outcome) {
-    let Some(row) = row_of(before) else { return };
-    let no = outcome
-        .as_ref()
-        .map_or_else(|refusal| refusal.number(), |_| 0);
-    if before
-        .present()
-        .first()
-        .is_some_and(|first| first.position >= before.road.end)
-    {
-        add(met, past_end_call(call, outcome), true);
-    }
-    match (call, outcome) {
-        (Call::Enter(newcomer), _) => {
-            let mut edges = length_edges(before, *newcomer, no);
-            if [0, 25, 26].contains(&no) {
-                edges.extend(gap_edges(before, &row, *newcomer, no));
-            }
-            edges
-                .into_iter()
-                .for_each(|(edge, there)| add(met, edge, there));
-        }
+fn edges(before: &Lane, call: &Call, outcome: &Outcome) -> Edges {
+    let Ok(row) = before.sound_row::<Fast>() else {
+        return Vec::new();
+    };
+    let no = outcome.as_ref().map_or_else(|no| no.number(), |_| 0);
+    let mut edges = match (call, outcome) {
+        (Call::Enter(newcomer), _) => entry_edges(before, &row, *newcomer, no),
         (Call::Cycle { wishes, .. }, Ok(Answer::Cycled(cycled))) => {
-            count_cycle(met, before, &row, wishes, cycled.word);
+            cycle_edges(before, &row, wishes, cycled.word)
         }
-        _ => (),
+        _ => Vec::new(),
+    };
+    let foremost = before.present().first();
+    if foremost.is_some_and(|foremost| foremost.position >= before.road.end) {
+        edges.push((past_end_call(call, outcome), true));
     }
+    edges
 }
 
 #[test]
@@ -239,47 +200,43 @@ fn histories_crowd_the_edges_of_lengths() {
         for call in &calls {
             let before = lane.0;
             let outcome = lane.call(call);
-            count_call(&mut met, &before, call, &outcome);
+            add(&mut met, edges(&before, call, &outcome));
         }
     }
     assert!(met.values().all(|&times| times > 5), "{met:?}");
 }
 
 /// Lanes as a host may hand them in, judged by lengths alone.
-fn lane_edges(lane: &Lane) -> Vec<(&'static str, bool)> {
+fn lane_edges(lane: &Lane) -> Edges {
     let present = lane.present();
     let foremost = present[0];
     let front_past = foremost.position >= lane.road.end;
     let tail = i128::from(foremost.position) - i128::from(foremost.length);
-    let to_end = tail - i128::from(lane.road.end);
+    let (long, to_end) = (foremost.length > 0, tail - i128::from(lane.road.end));
     let any = |found: fn(&Carrier) -> bool| present.iter().any(found);
-    let wraps = |carrier: &Carrier| carrier.position.checked_add(carrier.length).is_none();
+    let of = |length: u64| present.iter().any(|carrier| carrier.length == length);
     let level = present.windows(2).any(|pair| {
         let ahead = pair[0].position.checked_sub(pair[0].length);
         pair[0].length > 0 && ahead == Some(pair[1].position)
     });
+    let before_start = any(|carrier| carrier.position < carrier.length);
+    let wraps = any(|carrier| carrier.position.checked_add(carrier.length).is_none());
     vec![
         ("front past the end", front_past && to_end < 0),
         ("tail one before the end", front_past && to_end == -1),
-        ("tail at the end", foremost.length > 0 && to_end == 0),
-        ("tail one past the end", foremost.length > 0 && to_end == 1),
+        ("tail at the end", long && to_end == 0),
+        ("tail one past the end", long && to_end == 1),
         ("level with the tail ahead", level),
-        (
-            "tail before the start",
-            any(|carrier| carrier.position < carrier.length),
-        ),
-        ("length 65,535", any(|carrier| carrier.length == 65_535)),
-        ("length 65,536", any(|carrier| carrier.length == 65_536)),
-        (
-            "length 2^32 - 1",
-            any(|carrier| carrier.length == u32::MAX.into()),
-        ),
+        ("tail before the start", before_start),
+        ("length 65,535", of(65_535)),
+        ("length 65,536", of(65_536)),
+        ("length 2^32 - 1", of(u32::MAX.into())),
         (
             "length above 32 bits",
-            any(|carrier| carrier.length > u32::MAX.into()),
+            any(|carrier| carrier.length >> 32 > 0),
         ),
-        ("length 2^64 - 1", any(|carrier| carrier.length == u64::MAX)),
-        ("a sum that wraps", any(wraps)),
+        ("length 2^64 - 1", of(u64::MAX)),
+        ("a sum that wraps", wraps),
     ]
 }
 
@@ -288,10 +245,7 @@ fn met_on_lanes(lane: fn(&mut Random) -> Lane) -> Met {
     for _ in 0..20_000 {
         let lane = lane(&mut random);
         if !lane.present().is_empty() {
-            let edges = lane_edges(&lane);
-            edges
-                .into_iter()
-                .for_each(|(edge, there)| add(&mut met, edge, there));
+            add(&mut met, lane_edges(&lane));
         }
     }
     met
