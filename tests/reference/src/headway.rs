@@ -22,14 +22,15 @@ fn stop<S: Stopping>(carrier: Carrier, rate: u64) -> i64 {
     S::distance(rate as u32, carrier.speed as u32) as i64
 }
 
-/// Whether the follower is behind the leader, and would also rest behind it
-/// if the leader braked its hardest and the follower only as guaranteed.
+/// Whether the follower is behind the leader's tail, and would also rest behind
+/// it if the leader braked its hardest and the follower only as guaranteed.
 pub fn safe_behind<S: Stopping>(row: &Row, follower: Carrier, leader: Carrier) -> bool {
     follower.front() < leader.tail() && rests_short::<S>(row, follower, leader)
 }
 
 /// Whether the follower, once it has driven a cycle with `acceleration`, would
-/// still rest behind a leader that brakes its hardest from the cycle's start.
+/// still rest behind the tail of a leader that brakes its hardest from the
+/// cycle's start.
 pub fn rests_behind<S: Stopping>(
     row: &Row,
     follower: Carrier,
