@@ -23,7 +23,7 @@ use std::time::Instant;
 
 /// Random cases, and now and then a text step by step, until `end`.
 pub fn explore(random: &mut Random, end: Instant, tally: &mut Tally) {
-    check_empty(tally);
+    check_interface(tally);
     while Instant::now() < end && !tally.enough() {
         if random.chance(2) {
             check_text(&texts::input(random), tally);
@@ -64,8 +64,12 @@ fn check_case(case: &Case, tally: &mut Tally) {
     }
 }
 
-/// Of the empty lane all words but those of the house rows are 0.
-fn check_empty(tally: &mut Tally) {
+/// The interface is the one of the binding, and of the empty lane all words but
+/// those of the house rows are 0.
+fn check_interface(tally: &mut Tally) {
+    if !host::is_bound() {
+        tally.differs("the interface has another version", "none");
+    }
     let empty = host::empty();
     if empty != words::plain(&Lane::default()) {
         tally.differs(&format!("the empty lane is {empty:?}"), "none");

@@ -1,6 +1,9 @@
 //! A carrier and its motion over one cycle.
 
-/// A carrier is a point: its front.
+/// The greatest length that a carrier may have.
+pub const LONGEST_CARRIER: u64 = 65_535;
+
+/// A carrier reaches from its front, which its position is, back to its tail.
 #[derive(Clone, Copy, Debug, Default, PartialEq, Eq)]
 pub struct Carrier {
     pub number: u64,
@@ -8,9 +11,24 @@ pub struct Carrier {
     pub position: u64,
     /// In 1/128 m/s.
     pub speed: u64,
+    /// In 1/2048 m.
+    pub length: u64,
 }
 
 impl Carrier {
+    /// The position, as a number that tails can be compared with.
+    pub fn front(self) -> i64 {
+        debug_assert!(self.position <= u32::MAX.into());
+        self.position as i64
+    }
+
+    /// The position less the length, which may lie before the lane's start.
+    /// The length is within its range, so that nothing wraps.
+    pub fn tail(self) -> i64 {
+        debug_assert!(self.length <= LONGEST_CARRIER);
+        self.front() - self.length as i64
+    }
+
     /// The carrier after a whole cycle with `acceleration`, in 1/16 m/s²: the
     /// position gains 2v + a, the old speed and the new one.
     ///
@@ -19,9 +37,9 @@ impl Carrier {
         let speed = self.speed.wrapping_add_signed(acceleration.into());
         debug_assert!(u64::from(acceleration.unsigned_abs()) <= self.speed || acceleration > 0);
         Carrier {
-            number: self.number,
             position: self.position + self.speed + speed,
             speed,
+            ..self
         }
     }
 

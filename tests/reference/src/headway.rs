@@ -1,31 +1,46 @@
-//! The two-carrier rule: a follower and the leader next ahead of it.
+//! The two-carrier rule: the front of a follower and the tail of the leader
+//! next ahead of it.
 
 use crate::carrier::Carrier;
 use crate::stopping::Stopping;
 use crate::surface::Row;
 
-/// Where a carrier that brakes at `rate` from now on comes to rest. The rate
-/// is of a sound row and the speed within a limit, so 32 bits hold them.
-pub fn rest<S: Stopping>(carrier: Carrier, rate: u64) -> u64 {
-    debug_assert!(carrier.speed.max(rate) <= u32::MAX.into());
-    carrier.position + S::distance(rate as u32, carrier.speed as u32)
+/// Where the front of a carrier that brakes at `rate` from now on comes to
+/// rest. The rate is of a sound row and the speed within a limit, so 32 bits
+/// hold them.
+pub fn front_at_rest<S: Stopping>(carrier: Carrier, rate: u64) -> i64 {
+    carrier.front() + stop::<S>(carrier, rate)
 }
 
-/// Whether the follower is behind the leader, and would also rest behind it
-/// if the leader braked its hardest and the follower only as guaranteed.
+/// Where its tail does.
+pub fn tail_at_rest<S: Stopping>(carrier: Carrier, rate: u64) -> i64 {
+    carrier.tail() + stop::<S>(carrier, rate)
+}
+
+fn stop<S: Stopping>(carrier: Carrier, rate: u64) -> i64 {
+    debug_assert!(carrier.speed.max(rate) <= u32::MAX.into());
+    S::distance(rate as u32, carrier.speed as u32) as i64
+}
+
+/// Whether the follower is behind the leader's tail, and would also rest behind
+/// it if the leader braked its hardest and the follower only as guaranteed.
 pub fn safe_behind<S: Stopping>(row: &Row, follower: Carrier, leader: Carrier) -> bool {
-    follower.position < leader.position
-        && rest::<S>(follower, row.guaranteed_braking) < rest::<S>(leader, row.hardest_braking)
+    follower.front() < leader.tail() && rests_short::<S>(row, follower, leader)
 }
 
 /// Whether the follower, once it has driven a cycle with `acceleration`, would
-/// still rest behind a leader that brakes its hardest from the cycle's start.
+/// still rest behind the tail of a leader that brakes its hardest from the
+/// cycle's start.
 pub fn rests_behind<S: Stopping>(
     row: &Row,
     follower: Carrier,
     acceleration: i32,
     leader: Carrier,
 ) -> bool {
-    let driven = follower.after(acceleration);
-    rest::<S>(driven, row.guaranteed_braking) < rest::<S>(leader, row.hardest_braking)
+    rests_short::<S>(row, follower.after(acceleration), leader)
+}
+
+fn rests_short<S: Stopping>(row: &Row, follower: Carrier, leader: Carrier) -> bool {
+    front_at_rest::<S>(follower, row.guaranteed_braking)
+        < tail_at_rest::<S>(leader, row.hardest_braking)
 }

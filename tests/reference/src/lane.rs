@@ -54,7 +54,7 @@ impl Default for Lane {
 #[derive(Clone, Copy, Debug, Default, PartialEq, Eq)]
 pub struct FastLane(pub Lane);
 
-/// Where a carrier is and how fast, in metres and m/s, both exact.
+/// Where a carrier's front is and how fast, in metres and m/s, both exact.
 #[derive(Clone, Copy, Debug, Default, PartialEq)]
 pub struct Reading {
     pub position: f64,

@@ -7,6 +7,7 @@ mod edges;
 mod entries;
 mod histories;
 mod lanes;
+mod lengths;
 mod programs;
 mod table_texts;
 mod tables;

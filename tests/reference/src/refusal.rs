@@ -31,6 +31,7 @@ pub enum Refusal {
     /// Of a table text: malformed, or a row that is not sound.
     TableFaulty = 31,
     CarriersPresent = 32,
+    LengthTooLarge = 33,
 }
 
 impl Refusal {

@@ -1,5 +1,6 @@
 //! What a start gives of the road, and the ranges it must keep to.
 
+use crate::carrier::Carrier;
 use crate::refusal::Refusal;
 use crate::surface::{Row, Table};
 use std::ops::RangeInclusive;
@@ -25,5 +26,11 @@ impl Road {
         Refusal::EndOutOfRange.when(!ENDS.contains(&self.end))?;
         Refusal::LimitOutOfRange.when(!LIMITS.contains(&self.limit))?;
         Ok(row)
+    }
+
+    /// Whether a carrier is still on the lane: it is gone once its tail is at
+    /// or past the end. End and length keep their ranges; the position is any.
+    pub fn holds(&self, carrier: &Carrier) -> bool {
+        carrier.position < self.end + carrier.length
     }
 }

@@ -56,8 +56,8 @@ impl RoadBook {
             Call::Cycle { ref wishes, .. } => {
                 let drives = self.drives(wishes, word)?;
                 self.carriers = drives.iter().map(Drive::end).collect();
-                let end = self.road.end;
-                self.carriers.retain(|carrier| carrier.position < end);
+                let road = self.road;
+                self.carriers.retain(|carrier| road.holds(carrier));
             }
             Call::Load { ref text } => {
                 let table = text::table(text);

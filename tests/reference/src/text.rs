@@ -90,6 +90,7 @@ impl<'a> Lines<'a> {
             number: self.number::<u16>("car")?,
             position: self.number::<u32>("at")?,
             speed: self.number::<u32>("speed")?,
+            length: self.number::<u32>("length")?,
         })
     }
 

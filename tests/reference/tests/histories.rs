@@ -2,13 +2,13 @@
 
 mod common;
 
-use common::{carrier, example_lane, wishes};
+use common::{carrier, example_lane, lane_of, long_carrier, wishes};
 use lane_reference::random::{
     call, history, sound_lane, unsound_lane, widened, History, Random, CYCLES, EVEN, LOADS,
 };
 use lane_reference::road_book::{check_history, Checker, Drive};
 use lane_reference::stopping::{Fast, Summed};
-use lane_reference::{Answer, Call, FastLane, Lane, Refusal, Supervisor, Wish};
+use lane_reference::{Answer, Call, Carrier, FastLane, Lane, Refusal, Supervisor, Wish};
 use std::collections::BTreeSet;
 
 #[test]
@@ -56,7 +56,7 @@ fn histories_reach_every_refusal_and_every_answer() {
             full += u32::from(lane.0.count == 64);
         }
     }
-    let every = (1..=7).chain([9]).chain(21..=28).chain([31, 32]).collect();
+    let every = (1..=7).chain([9]).chain(21..=28).chain(31..=33).collect();
     assert_eq!(refusals, every);
     assert_eq!(sorts.len(), 6, "{sorts:?}");
     assert!(full > 1_000 && gone > 1_000 && replaced > 10_000 && last_bit > 100);
@@ -138,7 +138,7 @@ fn arguments_above_their_width_are_refused() {
         let answer = after.call(&wide);
         let numbers: &[u32] = match wide {
             Call::Start { .. } => &[1, 2, 3],
-            Call::Enter { .. } => &[4, 5, 6],
+            Call::Enter { .. } => &[4, 5, 6, 33],
             Call::Leave { .. } | Call::Read { .. } => &[4],
             Call::Cycle { .. } | Call::LaneText { .. } | Call::Load { .. } => continue,
         };
@@ -196,9 +196,11 @@ fn the_checker_sees_a_wrong_bit_needless_braking_or_a_wrong_carrier() {
     for bit in 0..64 {
         assert!(observed(2 ^ 1 << bit, &right).is_err(), "bit {bit}");
     }
-    let wrong: [fn(&mut Lane); 11] = [
+    let wrong: [fn(&mut Lane); 13] = [
         |lane| lane.carriers[1].position += 1,
         |lane| lane.carriers[1].speed += 1,
+        |lane| lane.carriers[0].length += 1,
+        |lane| lane.carriers[1].length += 1,
         |lane| lane.carriers[0].number = 9,
         |lane| lane.carriers.swap(0, 1),
         |lane| lane.count = 1,
@@ -217,27 +219,56 @@ fn the_checker_sees_a_wrong_bit_needless_braking_or_a_wrong_carrier() {
     assert!(observed(2, &example_lane(1_000)).is_err(), "nobody moved");
 }
 
-/// The follower passes the leader half way and is behind again at the end, so
-/// a look at cycle ends alone finds nothing.
+/// Lets carriers in one after the other, as an implementation might, safe or
+/// not; gives what the checker says of the last.
+fn let_in(checker: &mut Checker, end: u64, carriers: &[Carrier]) -> Result<(), String> {
+    let mut seen = Ok(());
+    for count in 1..=carriers.len() {
+        let after = lane_of(0, end, 1_000, &carriers[..count]);
+        let entry = Call::Enter(carriers[count - 1]);
+        seen = checker.observe::<Summed>(&entry, false, 0, &after);
+    }
+    seen
+}
+
+/// The follower passes the leader's tail half way and is behind it again at the
+/// end, so a look at cycle ends alone finds nothing. On the last lane the leader
+/// is gone after the cycle.
 #[test]
 fn the_checker_sees_a_touch_between_cycle_ends() {
-    let lane = |carriers: &[_]| common::lane(0, 10_000, 1_000, carriers);
-    let mut checker = Checker::new(&lane(&[]));
-    // Not safe, but an implementation might let it in.
-    let (one, two) = ((1, 10, 0), (2, 5, 32));
-    for after in [lane(&[one]), lane(&[one, two])] {
-        let newcomer = *after.present().last().expect("a newcomer");
-        let seen = checker.observe::<Summed>(&Call::Enter(newcomer), false, 0, &after);
+    for (length, end) in [(0, 10_000), (300, 10_000), (300, 311), (300, 42)] {
+        let leader = long_carrier(1, 10 + length, 0, length);
+        let mut checker = Checker::new(&lane_of(0, end, 1_000, &[]));
+        let seen = let_in(&mut checker, end, &[leader, carrier(2, 5, 32)]);
         assert_eq!(seen, Ok(()));
+        let moved = [leader.after(32), carrier(2, 37, 0)];
+        let gone = usize::from(moved[0].tail() >= end as i64);
+        let cycle = Call::Cycle {
+            count: 2,
+            wishes: Box::new(wishes(&[Wish::Units(32), Wish::Units(-32)])),
+        };
+        let after = lane_of(0, end, 1_000, &moved[gone..]);
+        let seen = checker.observe::<Summed>(&cycle, false, 2, &after);
+        assert!(seen.is_err_and(|breach| breach.contains("touches")));
     }
+}
 
-    let after = lane(&[(1, 42, 32), (2, 37, 0)]);
-    let cycle = Call::Cycle {
-        count: 2,
-        wishes: Box::new(wishes(&[Wish::Units(32), Wish::Units(-32)])),
-    };
-    let seen = checker.observe::<Summed>(&cycle, false, 2, &after);
-    assert!(seen.is_err_and(|breach| breach.contains("touches")));
+/// A follower that is below the front ahead, but not below the tail, or below
+/// the tail next ahead, but not below one further ahead.
+#[test]
+fn the_checker_sees_a_front_level_with_a_tail() {
+    let one = long_carrier(1, 1_000, 0, 300);
+    let lanes = [
+        (vec![one, carrier(2, 699, 0)], true),
+        (vec![one, carrier(2, 700, 0)], false),
+        (vec![one, carrier(2, 999, 0)], false),
+        (vec![one, carrier(2, 800, 0), carrier(3, 750, 0)], false),
+    ];
+    for (carriers, apart) in lanes {
+        let mut checker = Checker::new(&common::lane(0, 10_000, 1_000, &[]));
+        let seen = let_in(&mut checker, 10_000, &carriers);
+        assert_eq!(seen.is_ok(), apart, "{carriers:?}");
+    }
 }
 
 #[test]

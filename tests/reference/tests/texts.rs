@@ -14,14 +14,14 @@ use std::process::{Command, Stdio};
 const START: &str = "call=start\nsurface=0\nend=10000\nlimit=1000\ncycle=0\n";
 
 const EXAMPLE: &str = "call=start\nsurface=0\nend=10000\nlimit=1000\ncycle=0\n\
-    call=enter\ncar=7\nat=1000\nspeed=0\n\
-    call=enter\ncar=8\nat=700\nspeed=64\n\
+    call=enter\ncar=7\nat=1000\nspeed=0\nlength=0\n\
+    call=enter\ncar=8\nat=700\nspeed=64\nlength=0\n\
     call=cycle\ncars=2\nwant=hold\nwant=units:32\n\
     call=show\n";
 
 const EXAMPLE_OUTPUT: &str = "ok=start\nok=enter\nplace=0\nok=enter\nplace=1\n\
     ok=cycle\nover=0000000000000002\ngone=0\n\
-    ok=show\ncars=2\ncar=7\nat=1000\nspeed=0\ncar=8\nat=764\nspeed=0\n";
+    ok=show\ncars=2\ncar=7\nat=1000\nspeed=0\nlength=0\ncar=8\nat=764\nspeed=0\nlength=0\n";
 
 fn output(input: &str) -> String {
     String::from_utf8(run(input.as_bytes())).expect("answers are ASCII")
@@ -50,9 +50,9 @@ fn the_example_through_the_program() {
 #[test]
 fn the_edges_about_1020() {
     let end = |position: u32| output(&EXAMPLE.replace("at=1000", &format!("at={position}")));
-    assert!(end(1_020).ends_with("car=8\nat=764\nspeed=0\n"));
+    assert!(end(1_020).ends_with("car=8\nat=764\nspeed=0\nlength=0\n"));
     assert!(end(1_021).contains("over=0000000000000000\n"));
-    assert!(end(1_021).ends_with("car=8\nat=860\nspeed=96\n"));
+    assert!(end(1_021).ends_with("car=8\nat=860\nspeed=96\nlength=0\n"));
 }
 
 #[test]
@@ -66,7 +66,10 @@ fn every_call_has_its_answer() {
         ("call=show\n", "no=21\n"),
         (START, "ok=start\n"),
         ("call=show\n", "ok=show\ncars=0\n"),
-        ("call=enter\ncar=7\nat=0\nspeed=0\n", "ok=enter\nplace=0\n"),
+        (
+            "call=enter\ncar=7\nat=0\nspeed=0\nlength=0\n",
+            "ok=enter\nplace=0\n",
+        ),
         ("call=leave\ncar=7\n", "ok=leave\n"),
         ("call=leave\ncar=7\n", "no=24\n"),
         (
@@ -113,10 +116,11 @@ fn a_malformed_block_does_not_run() {
     let surplus = EXAMPLE.replace("want=units:32\n", "want=units:32\nwant=hold\n");
     assert!(output(&surplus).ends_with("over=0000000000000002\ngone=0\nno=8\n"));
     assert_eq!(
-        output("call=enter\ncar=7\nat=1\nspeed=x\ncall=show\n"),
+        output("call=enter\ncar=7\nat=1\nspeed=x\nlength=0\ncall=show\n"),
         "no=8\n"
     );
     assert_eq!(output("call=enter\ncar=7\nat=1\n"), "no=8\n");
+    assert_eq!(output("call=enter\ncar=7\nat=1\nspeed=0\n"), "no=8\n");
     assert_eq!(output("call=show\ncall=read\ncar=7\n"), "no=21\nno=8\n");
 }
 
@@ -151,7 +155,7 @@ fn numbers_fill_their_fields() {
     let widest = "call=start\nsurface=4294967295\nend=4294967295\nlimit=4294967295\n\
         cycle=18446744073709551615\n";
     assert_eq!(output(widest), "no=1\n");
-    let widest = "call=enter\ncar=65535\nat=4294967295\nspeed=4294967295\n";
+    let widest = "call=enter\ncar=65535\nat=4294967295\nspeed=4294967295\nlength=4294967295\n";
     assert_eq!(output(&format!("{START}{widest}")), "ok=start\nno=5\n");
     for (units, value) in [("-32768", -32_768), ("32767", 32_767), ("0", 0), ("-1", -1)] {
         let text = format!("call=cycle\ncars=1\nwant=units:{units}\n");
@@ -160,6 +164,34 @@ fn numbers_fill_their_fields() {
         };
         assert_eq!(wishes[0], Wish::Units(value));
     }
+}
+
+#[test]
+fn a_length_has_32_bits_and_its_place_after_the_speed() {
+    let enter = |lines: &str| output(&format!("{START}call=enter\ncar=7\nat=1\n{lines}"));
+    for (length, answer) in [
+        ("0", "ok=enter\nplace=0\n"),
+        ("65535", "ok=enter\nplace=0\n"),
+        ("65536", "no=33\n"),
+        ("4294967295", "no=33\n"),
+        ("4294967296", "no=8\n"),
+        ("00", "no=8\n"),
+        ("01", "no=8\n"),
+        ("-1", "no=8\n"),
+        ("", "no=8\n"),
+    ] {
+        let lines = format!("speed=0\nlength={length}\n");
+        assert_eq!(enter(&lines), format!("ok=start\n{answer}"), "{length}");
+    }
+    for lines in [
+        "length=0\nspeed=0\n",
+        "speed=0\ncall=show\n",
+        "speed=0\nLength=0\n",
+    ] {
+        assert_eq!(enter(lines), "ok=start\nno=8\n", "{lines}");
+    }
+    let twice = enter("speed=0\nlength=0\nlength=0\n");
+    assert_eq!(twice, "ok=start\nok=enter\nplace=0\nno=8\n");
 }
 
 #[test]
@@ -214,12 +246,12 @@ fn the_longest_lane_text() {
     let mut input = "call=start\nsurface=0\nend=2147483648\nlimit=8192\ncycle=0\n".to_string();
     for place in 0..64 {
         let number = 65_535 - place;
-        let position = i32::MAX - 1_048_576 * place;
-        input += &format!("call=enter\ncar={number}\nat={position}\nspeed=8192\n");
+        let position = i32::MAX - (1_048_576 + 65_535) * place;
+        input += &format!("call=enter\ncar={number}\nat={position}\nspeed=8192\nlength=65535\n");
     }
     let output = output(&(input + "call=show\n"));
     let (_, text) = output.split_once("ok=show\n").expect("shown");
-    assert!(text.starts_with("cars=64\ncar=65535\nat=2147483647\nspeed=8192\n"));
+    assert!(text.starts_with("cars=64\ncar=65535\nat=2147483647\nspeed=8192\nlength=65535\n"));
     assert_eq!(text.len(), LONGEST_LANE_TEXT);
 }
 

@@ -1,6 +1,9 @@
 //! The product's C functions and the structs that they pass by value. The
 //! lane is looked at as plain words, row by row.
 
+/// The interface that this file is for.
+pub const VERSION: u32 = 3;
+
 /// A lane as it is lent.
 pub type Words = [[u64; 8]; 89];
 
@@ -16,6 +19,7 @@ pub struct Carrier {
     pub number: u64,
     pub position: u64,
     pub speed: u64,
+    pub length: u64,
 }
 
 /// A C `bool` as it lies in memory, so that one that is neither can be told.
@@ -64,6 +68,7 @@ pub struct Stepped {
 }
 
 extern "C" {
+    pub fn rondavitse_version() -> u32;
     pub fn rondavitse_empty(lane: *mut Words);
     pub fn rondavitse_start(lane: *mut Words, road: Road, first: u64) -> u32;
     pub fn rondavitse_enter(lane: *mut Words, carrier: Carrier) -> Entered;

@@ -15,6 +15,11 @@ pub struct Step {
     pub stop: bool,
 }
 
+/// Whether the library has the interface that the binding is for.
+pub fn is_bound() -> bool {
+    unsafe { rondavitse_version() == VERSION }
+}
+
 /// The empty lane, whatever was there before.
 pub fn empty() -> Words {
     let mut lane = [[u64::MAX; 8]; 89];
@@ -54,6 +59,7 @@ fn plain(lane: &mut Words, call: &Call) -> (u32, Vec<u64>) {
                 number: carrier.number,
                 position: carrier.position,
                 speed: carrier.speed,
+                length: carrier.length,
             };
             let entered = unsafe { rondavitse_enter(lane, carrier) };
             (entered.no, vec![entered.place as u64])

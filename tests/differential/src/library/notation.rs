@@ -31,7 +31,12 @@ fn print_call(call: &HostCall) -> String {
             format!("start{}\n", joined(&figures))
         }
         HostCall::Plain(Call::Enter(carrier)) => {
-            let figures = [carrier.number, carrier.position, carrier.speed];
+            let figures = [
+                carrier.number,
+                carrier.position,
+                carrier.speed,
+                carrier.length,
+            ];
             format!("enter{}\n", joined(&figures))
         }
         HostCall::Plain(Call::Leave { number }) => format!("leave {number}\n"),
@@ -120,6 +125,7 @@ fn parse_plain(word: &str, words: &mut SplitWhitespace) -> Option<Call> {
             number: figure(words)?,
             position: figure(words)?,
             speed: figure(words)?,
+            length: figure(words)?,
         }),
         "leave" => Call::Leave {
             number: figure(words)?,

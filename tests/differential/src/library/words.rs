@@ -15,9 +15,10 @@ const RECORDS: usize = 25;
 /// The word of the first row with the carriers present.
 const COUNT: usize = 5;
 
-/// How many words of the first row count, and of a surface row or a record.
+/// How many words of the first row count, of a surface row and of a record.
 const FIGURES: usize = 6;
 const FIGURES_OF_ROW: usize = 3;
+const FIGURES_OF_RECORD: usize = 4;
 
 /// Words of a lane that counts as never started.
 const NEVER_STARTED: [u64; 6] = [0, 0, 2, 256, (1 << 32) + 1, u64::MAX];
@@ -41,11 +42,12 @@ pub fn lane(words: &Words) -> Lane {
         carriers: [Carrier::default(); PLACES],
     };
     for (carrier, row) in lane.carriers.iter_mut().zip(&words[RECORDS..]) {
-        let [number, position, speed, ..] = *row;
+        let [number, position, speed, length, ..] = *row;
         *carrier = Carrier {
             number,
             position,
             speed,
+            length,
         };
     }
     lane
@@ -72,8 +74,13 @@ pub fn plain(lane: &Lane) -> Words {
     put_table(&mut words, IN_FORCE, &lane.tables.in_force);
     put_table(&mut words, FOR_NEXT_START, &lane.tables.for_next_start);
     for (row, carrier) in words[RECORDS..].iter_mut().zip(lane.carriers) {
-        let figures = [carrier.number, carrier.position, carrier.speed];
-        row[..FIGURES_OF_ROW].copy_from_slice(&figures);
+        let Carrier {
+            number,
+            position,
+            speed,
+            length,
+        } = carrier;
+        row[..FIGURES_OF_RECORD].copy_from_slice(&[number, position, speed, length]);
     }
     words
 }
@@ -104,7 +111,8 @@ pub fn scramble(words: &mut Words, seed: u64) {
         let counting = match place {
             0 => FIGURES,
             FREE..RECORDS => 0,
-            _ => FIGURES_OF_ROW,
+            IN_FORCE..FREE => FIGURES_OF_ROW,
+            _ => FIGURES_OF_RECORD,
         };
         for word in &mut row[counting..] {
             let any = random.bits();

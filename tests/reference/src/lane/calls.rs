@@ -4,7 +4,7 @@ use super::listing::{lane_text, LONGEST_LANE_TEXT};
 use super::motion::drive;
 use super::{Cycled, Lane, Reading, NUMBERS, PLACES};
 use crate::call::{Answer, Call};
-use crate::carrier::Carrier;
+use crate::carrier::{Carrier, LONGEST_CARRIER};
 use crate::headway::safe_behind;
 use crate::refusal::Refusal;
 use crate::road::Road;
@@ -43,6 +43,7 @@ pub trait Supervisor {
         Refusal::NumberOutOfRange.when(!NUMBERS.contains(&newcomer.number))?;
         Refusal::PositionPastEnd.when(newcomer.position >= lane.road.end)?;
         Refusal::SpeedAboveLimit.when(newcomer.speed > lane.road.limit)?;
+        Refusal::LengthTooLarge.when(newcomer.length > LONGEST_CARRIER)?;
         let present = lane.present();
         let count = present.len();
         Refusal::LaneFull.when(count == PLACES)?;
@@ -103,10 +104,11 @@ pub trait Supervisor {
         Ok(drive::<Self::Stopping>(lane, &row, &wished))
     }
 
-    /// Where a carrier is and how fast.
+    /// Where a carrier's front is and how fast.
     fn read(&self, number: u64) -> Result<Reading, Refusal> {
         let carrier = self.lane().carriers[self.place_of(number)?];
-        // Both are below 2^32 and divided by a power of two: nothing is lost.
+        // A front past the end is below 2^32 too, and both figures are divided
+        // by a power of two: nothing is lost.
         Ok(Reading {
             position: f64::from(carrier.position as u32) / 2048.0,
             speed: f64::from(carrier.speed as u32) / 128.0,
@@ -176,8 +178,8 @@ pub trait Supervisor {
     }
 }
 
-/// The walk goes front to back and ends at the first carrier whose position
-/// is lower, so a carrier at the same position counts as ahead.
+/// The walk goes front to back, by fronts alone, and ends at the first carrier
+/// whose position is lower, so a carrier at the same position counts as ahead.
 fn entry_place(present: &[Carrier], position: u64) -> usize {
     present
         .iter()

@@ -1,7 +1,7 @@
 //! One cycle of a sound lane: which wishes stand, and where they lead.
 
 use super::{Cycled, Lane, PLACES};
-use crate::headway::rest;
+use crate::headway::{front_at_rest, tail_at_rest};
 use crate::stopping::Stopping;
 use crate::surface::Row;
 
@@ -11,21 +11,21 @@ pub(super) fn drive<S: Stopping>(lane: &mut Lane, row: &Row, wished: &[i32; PLAC
     let count = lane.present().len();
     let mut cycled = Cycled::default();
     let mut remaining = 0;
-    // Where the carrier ahead would rest if it braked its hardest; nobody is
-    // ahead of the foremost.
-    let mut bound = u64::MAX;
+    // Where the tail ahead would rest if that carrier braked its hardest; nobody
+    // is ahead of the foremost.
+    let mut bound = i64::MAX;
     for (place, &wished) in wished.iter().enumerate().take(count) {
         let carrier = lane.carriers[place];
         let braking = carrier.braking(row.guaranteed_braking);
         let mut moved = carrier.after(wished);
-        let stands = wished <= braking || rest::<S>(moved, row.guaranteed_braking) < bound;
+        let stands = wished <= braking || front_at_rest::<S>(moved, row.guaranteed_braking) < bound;
         if !stands {
             cycled.word |= 1 << place;
             cycled.replaced += 1;
             moved = carrier.after(braking);
         }
-        bound = rest::<S>(carrier, row.hardest_braking);
-        if moved.position < lane.road.end {
+        bound = tail_at_rest::<S>(carrier, row.hardest_braking);
+        if lane.road.holds(&moved) {
             lane.carriers[remaining] = moved;
             remaining += 1;
         } else {

@@ -1,6 +1,7 @@
 //! Check 21: the rules that a lane handed in must keep.
 
 use super::{Carrier, Lane, PLACES};
+use crate::carrier::LONGEST_CARRIER;
 use crate::headway::safe_behind;
 use crate::refusal::Refusal;
 use crate::road::Road;
@@ -45,9 +46,13 @@ impl Met {
 }
 
 impl Carrier {
-    /// Whether the carrier by itself breaks no rule.
+    /// Whether the carrier by itself breaks no rule. Its words are any: the
+    /// length is looked at before the tail is reckoned with it.
     fn is_lawful(&self, road: &Road) -> bool {
-        NUMBERS.contains(&self.number) && self.position < road.end && self.speed <= road.limit
+        NUMBERS.contains(&self.number)
+            && self.speed <= road.limit
+            && self.length <= LONGEST_CARRIER
+            && road.holds(self)
     }
 }
 

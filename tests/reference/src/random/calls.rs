@@ -1,6 +1,7 @@
 //! The next call of a history, fitted to the lane it meets.
 
 use super::entries::{closing_up, entry, known_number};
+use super::programs::carrier_lines;
 use super::table_texts::load_text;
 use super::wishes::wishes;
 use super::Random;
@@ -55,12 +56,9 @@ fn cycle(random: &mut Random, lane: &Lane) -> Call {
 
 /// Buffers about the length of the text.
 fn lane_text(random: &mut Random, lane: &Lane) -> Call {
-    let figures = lane.present().iter().map(|carrier| {
-        let digits = format!("{}{}{}", carrier.number, carrier.position, carrier.speed);
-        "car=\nat=\nspeed=\n".len() + digits.len()
-    });
-    let head = format!("cars={}\n", lane.present().len()).len();
-    let length = head + figures.sum::<usize>();
+    let carriers = lane.present().iter().map(carrier_lines);
+    let head = format!("cars={}\n", lane.present().len());
+    let length = carriers.fold(head, |text, lines| text + &lines).len();
     Call::LaneText {
         room: random.pick(&[length, length, length - 1, length + 1, 0, LONGEST_LANE_TEXT]),
     }

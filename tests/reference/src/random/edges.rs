@@ -29,18 +29,30 @@ fn stop(rate: u64, speed: u64) -> i128 {
     fast(rate as u32, narrow(speed) as u32).into()
 }
 
+/// Where a carrier's tail is, whatever its words are.
+pub fn tail(carrier: Carrier) -> i128 {
+    i128::from(carrier.position) - i128::from(carrier.length)
+}
+
 /// The foremost position at which a carrier with `speed` is safe behind `leader`.
 pub fn nearest_behind(row: &Row, leader: Carrier, speed: u64) -> i128 {
     let leader_stop = stop(row.hardest_braking, leader.speed);
     let lead = leader_stop - stop(row.guaranteed_braking, speed);
-    i128::from(leader.position) - 1 + lead.min(0)
+    tail(leader) - 1 + lead.min(0)
 }
 
-/// The rearmost position at which `follower` is safe behind a carrier with `speed`.
-pub fn nearest_ahead(row: &Row, follower: Carrier, speed: u64) -> i128 {
+/// The rearmost position of the tail at which `follower` is safe behind a
+/// carrier with `speed`.
+pub fn nearest_tail_ahead(row: &Row, follower: Carrier, speed: u64) -> i128 {
     let follower_stop = stop(row.guaranteed_braking, follower.speed);
     let lag = follower_stop - stop(row.hardest_braking, speed);
     i128::from(follower.position) + 1 + lag.max(0)
+}
+
+/// The wish with which a carrier's tail is just at the lane's end after a cycle,
+/// trimmed or not.
+pub fn just_gone(end: u64, carrier: Carrier) -> i128 {
+    i128::from(end) - tail(carrier) - 2 * i128::from(carrier.speed)
 }
 
 /// The ends that wishes are trimmed to.
@@ -56,7 +68,7 @@ pub fn trimming_ends(row: &Row, limit: u64, speed: u64) -> (i64, i64) {
 /// the leader; where there is none, hardest braking.
 pub fn greatest_standing(row: &Row, limit: u64, follower: Carrier, leader: Carrier) -> i64 {
     let (lowest, highest) = trimming_ends(row, limit, follower.speed);
-    let bound = i128::from(leader.position) + stop(row.hardest_braking, leader.speed);
+    let bound = tail(leader) + stop(row.hardest_braking, leader.speed);
     (lowest..=highest)
         .rev()
         .find(|&wished| {

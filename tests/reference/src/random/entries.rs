@@ -1,30 +1,35 @@
 //! Entries that are just safe or just not. Their figures are such as a line of
 //! text can hold, whatever the lane is.
 
-use super::edges::{narrow, nearest_ahead, nearest_behind, row_of};
+use super::edges::{narrow, nearest_behind, nearest_tail_ahead, row_of, tail};
+use super::lengths::{edge_length, length, sound_length, to_length};
 use super::Random;
-use crate::carrier::Carrier;
-use crate::lane::{Lane, NUMBERS};
+use crate::carrier::{Carrier, LONGEST_CARRIER};
+use crate::lane::{Lane, NUMBERS, PLACES};
 
 /// How far an entry is from the nearest safe position: mostly not at all.
 const OFFSETS: [i128; 8] = [0, 0, 0, 0, 1, 1, -1, 2];
 
 /// An entry of any sort, refused ones among them.
 pub fn entry(random: &mut Random, lane: &Lane) -> Carrier {
-    let number = number(random, lane);
-    let speed = speed(random, lane);
-    let position = match random.below(10) {
-        0..=3 => behind(random, lane, speed),
-        4..=6 => ahead(random, lane, speed),
-        7 => near_end(random, lane),
-        8 => level(random, lane),
-        _ => narrow(random.below(narrow(lane.road.end) + 2)),
+    let mut newcomer = Carrier {
+        number: number(random, lane),
+        position: narrow(random.below(narrow(lane.road.end) + 2)),
+        speed: speed(random, lane),
+        length: length(random),
     };
-    Carrier {
-        number,
-        position,
-        speed,
+    match random.below(12) {
+        0..=3 => newcomer.position = behind(random, lane, newcomer.speed),
+        4..=6 => ahead(random, lane, &mut newcomer),
+        7..=8 => fill_gap(random, lane, &mut newcomer),
+        9 => newcomer.position = near_end(random, lane),
+        10 => newcomer.position = level(random, lane),
+        _ => (),
     }
+    if random.chance(15) {
+        newcomer.length = edge_length(random, lane, newcomer);
+    }
+    newcomer
 }
 
 /// An entry at the back that succeeds, as tight as can be, unless the lane is
@@ -43,10 +48,24 @@ pub fn closing_up(random: &mut Random, lane: &Lane) -> Carrier {
         }
         None => near_end(random, lane).min(lane.road.end.saturating_sub(1)),
     };
-    Carrier {
+    let mut newcomer = Carrier {
         number,
         position,
         speed,
+        length: sound_length(random),
+    };
+    newcomer.length = closing_length(random, lane, newcomer);
+    newcomer
+}
+
+/// Mostly a length that leaves as much room to each carrier that may still
+/// follow; nobody can follow if the tail is before the start.
+fn closing_length(random: &mut Random, lane: &Lane, newcomer: Carrier) -> u64 {
+    let others = (PLACES - lane.present().len()).max(1) as u64;
+    match random.below(24) {
+        0 => newcomer.length,
+        1..=4 if lane.count == 0 => edge_length(random, lane, newcomer).min(LONGEST_CARRIER),
+        _ => newcomer.length.min(newcomer.position / others),
     }
 }
 
@@ -72,18 +91,47 @@ fn behind(random: &mut Random, lane: &Lane, speed: u64) -> u64 {
     }
 }
 
-fn ahead(random: &mut Random, lane: &Lane, speed: u64) -> u64 {
-    match neighbour(random, lane, 0) {
-        Some(follower) => {
-            let nearest = nearest_ahead(&row_of(lane), follower, speed);
-            to_position(nearest - random.pick(&OFFSETS))
-        }
-        None => near_end(random, lane),
+/// Puts the newcomer's tail ahead of a carrier; where its front would be past
+/// the end, it is mostly made shorter.
+fn ahead(random: &mut Random, lane: &Lane, newcomer: &mut Carrier) {
+    let Some(follower) = neighbour(random, lane, 0) else {
+        newcomer.position = near_end(random, lane);
+        return;
+    };
+    let nearest = nearest_tail_ahead(&row_of(lane), follower, newcomer.speed);
+    let tail = nearest - random.pick(&OFFSETS);
+    let room = i128::from(lane.road.end) - 1 - tail;
+    if room >= 0 && random.chance(80) {
+        newcomer.length = newcomer.length.min(to_length(room));
     }
+    newcomer.position = to_position(tail + i128::from(newcomer.length));
 }
 
+/// Makes the newcomer reach from the nearest position behind one carrier to the
+/// nearest ahead of the next, or a little further.
+fn fill_gap(random: &mut Random, lane: &Lane, newcomer: &mut Carrier) {
+    let (row, present) = (row_of(lane), lane.present());
+    let place = random.index(present.len().max(1));
+    let foremost = || i128::from(lane.road.end) - 1;
+    let leader = place.checked_sub(1).map(|ahead| present[ahead]);
+    let front = leader.map_or_else(foremost, |leader| {
+        nearest_behind(&row, leader, newcomer.speed)
+    });
+    let rearmost_tail = present.get(place).map_or(0, |&follower| {
+        nearest_tail_ahead(&row, follower, newcomer.speed)
+    });
+    newcomer.position = to_position(front);
+    newcomer.length = to_length(front - rearmost_tail + random.pick(&OFFSETS));
+}
+
+/// Level with a carrier's front or tail, or between them.
 fn level(random: &mut Random, lane: &Lane) -> u64 {
-    neighbour(random, lane, 0).map_or(0, |carrier| narrow(carrier.position))
+    let Some(carrier) = neighbour(random, lane, 0) else {
+        return 0;
+    };
+    let within = random.below(narrow(carrier.length) + 1);
+    let from_tail = random.pick(&[carrier.length, 0, within]);
+    to_position(tail(carrier) + i128::from(from_tail))
 }
 
 fn near_end(random: &mut Random, lane: &Lane) -> u64 {
@@ -91,7 +139,9 @@ fn near_end(random: &mut Random, lane: &Lane) -> u64 {
     let within = random.below(end.max(1));
     let close = end.saturating_sub(random.below(20_000));
     let last = end.saturating_sub(1);
-    random.pick(&[last, last.saturating_sub(1), end, within, close])
+    // The front past the end, where a tail might still be before it.
+    let past = narrow(end + random.below(LONGEST_CARRIER + 1));
+    random.pick(&[last, last, last.saturating_sub(1), end, past, within, close])
 }
 
 /// Speeds about the multiples of the braking rates and about the limit.

@@ -1,12 +1,13 @@
 //! Lanes as a host may hand them in.
 
 use super::calls::{any_cycle, any_road};
-use super::edges::{nearest_behind, row_of};
+use super::edges::{nearest_behind, row_of, tail};
 use super::entries::{closing_up, speed};
+use super::lengths::sound_length;
 use super::tables::{any_tables, sound_tables, unsound_table};
-use super::wide::{wide, wide_number};
+use super::wide::{wide, wide_length, wide_number};
 use super::Random;
-use crate::carrier::Carrier;
+use crate::carrier::{Carrier, LONGEST_CARRIER};
 use crate::lane::{Lane, PLACES};
 use crate::road::Road;
 use crate::surface::Tables;
@@ -59,16 +60,19 @@ fn leftovers(random: &mut Random) -> [Carrier; PLACES] {
         number: random.below(65_536),
         position: random.bits() >> 32,
         speed: random.bits() >> 32,
+        length: sound_length(random),
     };
     let any = Carrier {
         number: random.bits(),
         position: random.bits(),
         speed: random.bits(),
+        length: random.bits(),
     };
     [random.pick(&[Carrier::default(), left, any]); PLACES]
 }
 
-/// A started, sound lane: a tight platoon of up to 64.
+/// A started, sound lane: a tight platoon of up to 64, the foremost now and then
+/// with its front past the end.
 pub fn sound_lane(random: &mut Random) -> Lane {
     let tables = sound_tables(random);
     lane_with(random, tables)
@@ -86,15 +90,28 @@ pub fn lane_with(random: &mut Random, tables: Tables) -> Lane {
     };
     let any = random.index(PLACES + 1);
     let wanted = random.pick(&[0, 1, 2, PLACES, any]);
-    while lane.present().len() < wanted && rear_position(&lane) != Some(0) {
-        lane.carriers[lane.present().len()] = closing_up(random, &lane);
+    while lane.present().len() < wanted && has_room_behind(&lane) {
+        let mut newcomer = closing_up(random, &lane);
+        if lane.count == 0 && random.chance(30) {
+            move_past_end(random, &lane.road, &mut newcomer);
+        }
+        lane.carriers[lane.present().len()] = newcomer;
         lane.count += 1;
     }
     lane
 }
 
-fn rear_position(lane: &Lane) -> Option<u64> {
-    lane.present().last().map(|rear| rear.position)
+/// Whether anyone can be behind the last carrier: its tail is not before the
+/// start, nor at it.
+fn has_room_behind(lane: &Lane) -> bool {
+    lane.present().last().is_none_or(|&rear| tail(rear) > 0)
+}
+
+/// Moves the carrier on until its tail is just before the end.
+fn move_past_end(random: &mut Random, road: &Road, carrier: &mut Carrier) {
+    let last = road.end + carrier.length - 1;
+    let moved = last.saturating_sub(random.below(3));
+    carrier.position = carrier.position.max(moved);
 }
 
 /// A lane made unsound in one way, mostly by as little as can be.
@@ -118,7 +135,7 @@ fn overstep(random: &mut Random, lane: &mut Lane) {
     let follower = 1 + random.index(lane.present().len() - 1);
     let ahead = random.index(follower);
     let most = u32::MAX.into();
-    match random.below(11) {
+    match random.below(15) {
         0 => lane.started = false,
         1 => lane.road.surface = random.pick(&[8, 9, most]),
         2 => lane.road.end = random.pick(&[0, (1 << 31) + 1, most]),
@@ -127,24 +144,64 @@ fn overstep(random: &mut Random, lane: &mut Lane) {
         5 => lane.carriers[place].number = random.pick(&[0, 65_536]),
         6 => lane.carriers[follower].number = lane.carriers[ahead].number,
         7 => lane.carriers[place].speed = random.pick(&[lane.road.limit + 1, most]),
-        8 => lane.road.end = lane.carriers[0].position.max(1) - random.below(2),
-        9 => lane.carriers[follower].position = lane.carriers[ahead].position,
+        8 => lane.road.end = front_tail(lane).saturating_sub(random.below(2)),
+        9 => lane.carriers[0].position = past_end(lane) + random.below(2),
+        10 => lane.carriers[place].length = random.pick(&[LONGEST_CARRIER + 1, most]),
+        11 => lane.carriers[follower].position = lane.carriers[ahead].position,
+        12 => level_with_tail(lane, follower, ahead),
+        13 => too_long(lane, follower),
         _ => too_near(random, lane, follower),
     }
+}
+
+/// The tail of the foremost carrier, or the start where the tail is before it.
+fn front_tail(lane: &Lane) -> u64 {
+    let foremost = lane.carriers[0];
+    foremost.position.saturating_sub(foremost.length)
+}
+
+/// The position at which the foremost carrier's tail is at the end.
+fn past_end(lane: &Lane) -> u64 {
+    lane.road.end + lane.carriers[0].length
+}
+
+/// Puts a carrier level with the tail of one ahead: with room behind it, a tail
+/// is past the start.
+fn level_with_tail(lane: &mut Lane, follower: usize, ahead: usize) {
+    let leader = lane.carriers[ahead];
+    lane.carriers[follower].position = leader.position - leader.length;
+}
+
+/// Makes the one next ahead too long by one for the follower to be safe, be it
+/// that no carrier may be so long.
+fn too_long(lane: &mut Lane, follower: usize) {
+    let row = row_of(lane);
+    let Carrier {
+        position, speed, ..
+    } = lane.carriers[follower];
+    let leader = &mut lane.carriers[follower - 1];
+    let slack = nearest_behind(&row, *leader, speed) - i128::from(position);
+    leader.length += slack as u64 + 1;
 }
 
 /// Puts bits above its width into one field that counts.
 fn widen(random: &mut Random, lane: &mut Lane) {
     let place = random.index(lane.present().len());
     let carrier = &mut lane.carriers[place];
-    match random.below(7) {
+    match random.below(9) {
         0 => lane.road.surface = wide(random, lane.road.surface),
         1 => lane.road.end = wide(random, lane.road.end),
         2 => lane.road.limit = wide(random, lane.road.limit),
         3 => lane.count = wide(random, lane.count),
         4 => carrier.number = wide_number(random, carrier.number),
         5 => carrier.position = wide(random, carrier.position),
-        _ => carrier.speed = wide(random, carrier.speed),
+        6 => carrier.speed = wide(random, carrier.speed),
+        7 => carrier.length = wide_length(random, carrier.length),
+        _ => {
+            // The tail is where it was.
+            let bit = 1 << (17 + random.below(47));
+            (carrier.position, carrier.length) = (carrier.position + bit, carrier.length + bit);
+        }
     }
 }
 

@@ -4,6 +4,7 @@ use super::breaks::{broken, garbled};
 use super::histories::calls_without_loads;
 use super::Random;
 use crate::call::Call;
+use crate::carrier::Carrier;
 use crate::program::LONGEST_INPUT;
 use crate::wish::Wish;
 
@@ -15,10 +16,7 @@ pub fn call_text(call: &Call) -> Option<String> {
             "call=start\nsurface={}\nend={}\nlimit={}\ncycle={first}\n",
             road.surface, road.end, road.limit
         )),
-        Call::Enter(carrier) => Some(format!(
-            "call=enter\ncar={}\nat={}\nspeed={}\n",
-            carrier.number, carrier.position, carrier.speed
-        )),
+        Call::Enter(carrier) => Some(format!("call=enter\n{}", carrier_lines(carrier))),
         Call::Leave { number } => Some(format!("call=leave\ncar={number}\n")),
         Call::Cycle { count, wishes } => {
             let wanted = wishes.get(..usize::try_from(*count).ok()?)?;
@@ -28,6 +26,17 @@ pub fn call_text(call: &Call) -> Option<String> {
         Call::LaneText { .. } => Some("call=show\n".to_string()),
         Call::Read { .. } | Call::Load { .. } => None,
     }
+}
+
+/// The lines of a carrier, in a call text as in a lane text.
+pub fn carrier_lines(carrier: &Carrier) -> String {
+    let Carrier {
+        number,
+        position,
+        speed,
+        length,
+    } = carrier;
+    format!("car={number}\nat={position}\nspeed={speed}\nlength={length}\n")
 }
 
 fn want_line(wish: &Wish) -> String {

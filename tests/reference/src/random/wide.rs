@@ -16,27 +16,36 @@ pub fn wide_number(random: &mut Random, number: u64) -> u64 {
     random.pick(&[number | bit, number | bit, bit, u64::MAX])
 }
 
+/// The length with a bit above 16 set, or one that is less than nothing where a
+/// sum wraps.
+pub fn wide_length(random: &mut Random, length: u64) -> u64 {
+    let wrapping = 0_u64.wrapping_sub(1 + random.below(1 << 17));
+    let above = wide_number(random, length);
+    random.pick(&[above, above, wrapping])
+}
+
 /// The figure of a row with a bit above 8 set, or with all.
 pub fn wide_figure(random: &mut Random, figure: u64) -> u64 {
     let bit = 1 << (8 + random.below(56));
     random.pick(&[figure | bit, figure | bit, bit, u64::MAX])
 }
 
-/// The call with one argument that no text can hold; a cycle, a lane text and
-/// a load stay as they are.
+/// The call with one argument above the width that it has; a cycle, a lane text
+/// and a load stay as they are.
 pub fn widened(random: &mut Random, call: &Call) -> Call {
     let mut call = call.clone();
-    let argument = random.below(3);
+    let argument = random.below(12);
     match &mut call {
-        Call::Start { road, .. } => match argument {
+        Call::Start { road, .. } => match argument % 3 {
             0 => road.surface = wide(random, road.surface),
             1 => road.end = wide(random, road.end),
             _ => road.limit = wide(random, road.limit),
         },
-        Call::Enter(carrier) => match argument {
+        Call::Enter(carrier) => match argument % 4 {
             0 => carrier.number = wide_number(random, carrier.number),
             1 => carrier.position = wide(random, carrier.position),
-            _ => carrier.speed = wide(random, carrier.speed),
+            2 => carrier.speed = wide(random, carrier.speed),
+            _ => carrier.length = wide_length(random, carrier.length),
         },
         Call::Leave { number } | Call::Read { number } => *number = wide_number(random, *number),
         Call::Cycle { .. } | Call::LaneText { .. } | Call::Load { .. } => (),

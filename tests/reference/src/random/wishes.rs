@@ -1,6 +1,6 @@
 //! Wishes at the ends of trimming, of standing and of the float ranges.
 
-use super::edges::{greatest_standing, row_of, trimming_ends};
+use super::edges::{greatest_standing, just_gone, row_of, trimming_ends};
 use super::Random;
 use crate::carrier::Carrier;
 use crate::lane::{Lane, PLACES};
@@ -29,9 +29,11 @@ enum Mood {
     JustStanding,
     /// The least wishes that are replaced.
     JustReplaced,
+    /// The tail at the end or one before it, of whoever can reach it.
+    JustGone,
 }
 
-const MOODS: [Mood; 8] = [
+const MOODS: [Mood; 10] = [
     Mood::Mixed,
     Mood::Mixed,
     Mood::Accelerate,
@@ -40,6 +42,8 @@ const MOODS: [Mood; 8] = [
     Mood::JustStanding,
     Mood::JustStanding,
     Mood::JustReplaced,
+    Mood::JustGone,
+    Mood::JustGone,
 ];
 
 /// Wishes for a cycle of `lane`. Those past the carriers are anything at all,
@@ -94,8 +98,16 @@ fn wish(random: &mut Random, lane: &Lane, place: usize, mood: Mood) -> Wish {
         Mood::Accelerate | Mood::CloseUp => highest,
         Mood::JustStanding => standing,
         Mood::JustReplaced => standing + 1,
+        Mood::JustGone => leaving(lane, carrier).unwrap_or(highest) - random.between(0, 1),
     };
     expressed(random, units, carrier.speed)
+}
+
+/// The trimmed wish that brings the carrier's tail just to the end, if there is one.
+fn leaving(lane: &Lane, carrier: Carrier) -> Option<i64> {
+    let (lowest, highest) = trimming_ends(&row_of(lane), lane.road.limit, carrier.speed);
+    let wished = i64::try_from(just_gone(lane.road.end, carrier)).ok()?;
+    (lowest..=highest).contains(&wished).then_some(wished)
 }
 
 fn mixed(random: &mut Random, lane: &Lane, carrier: Carrier, standing: i64) -> Wish {
@@ -108,7 +120,9 @@ fn mixed(random: &mut Random, lane: &Lane, carrier: Carrier, standing: i64) -> W
         2 => Wish::Units(random.pick(&[i16::MIN, i16::MAX, -1, 0, 1])),
         3 => float(random),
         _ => {
-            let edge = random.pick(&[lowest, highest, braking, standing]);
+            let usual = random.pick(&[lowest, highest, braking, standing]);
+            let leaving = leaving(lane, carrier).unwrap_or(usual);
+            let edge = random.pick(&[usual, leaving]);
             let units = edge + random.between(-1, 1);
             expressed(random, units, carrier.speed)
         }

@@ -2,6 +2,7 @@
 
 use super::{Breach, Drive, RoadBook};
 use crate::call::{Answer, Call};
+use crate::carrier::Carrier;
 use crate::headway::rests_behind;
 use crate::lane::{Lane, Supervisor, PLACES};
 use crate::stopping::Stopping;
@@ -48,12 +49,16 @@ impl Checker {
             ));
         }
         let carriers = held.carriers;
-        in_order(carriers.iter().map(|carrier| carrier.position.into()))
-            .map_err(|place| format!("place {place} is not below the one ahead: {carriers:?}"))
+        let ends = |carrier: &Carrier| {
+            let front = i128::from(carrier.position);
+            (front, front - i128::from(carrier.length))
+        };
+        in_order(carriers.iter().map(ends))
+            .map_err(|place| format!("place {place} is not below a tail ahead: {carriers:?}"))
     }
 
-    /// A bit is set exactly if the wish leads to resting level or crossed;
-    /// with no carrier ahead, or no carrier at all, it is not set.
+    /// A bit is set exactly if the wish leads to resting level with or past the
+    /// tail next ahead; with no carrier ahead, or no carrier at all, it is not set.
     fn replaced_rightly<S: Stopping>(
         &self,
         wishes: &[Wish; PLACES],
@@ -75,21 +80,23 @@ impl Checker {
     }
 }
 
-/// Each carrier stays below every one ahead over the whole cycle. It is enough
-/// to look at neighbours, and between them at the closest approach; the other
-/// fractions are there to test that thought too.
+/// Each front stays below the tail of every carrier ahead over the whole cycle,
+/// carriers that are gone after it included. It is enough to look at
+/// neighbours, and between them at the closest approach; the other fractions
+/// are there to test that thought too.
 fn apart_throughout(drives: &[Drive]) -> Result<(), Breach> {
     let whole = DENOMINATORS
         .iter()
         .flat_map(|&n| (0..=n).map(move |k| (k, n)));
     for (k, n) in whole.chain(MARGINS) {
-        in_order(drives.iter().map(|drive| drive.scaled_position(k, n)))
-            .map_err(|place| format!("place {place} touches the one ahead at {k}/{n}"))?;
+        let ends = |drive: &Drive| (drive.scaled_position(k, n), drive.scaled_tail(k, n));
+        in_order(drives.iter().map(ends))
+            .map_err(|place| format!("place {place} touches a tail ahead at {k}/{n}"))?;
     }
     for pair in drives.windows(2) {
         let (leader, follower) = (pair[0], pair[1]);
         if let Some((k, n)) = follower.closest_approach(&leader) {
-            if follower.scaled_position(k, n) >= leader.scaled_position(k, n) {
+            if follower.scaled_position(k, n) >= leader.scaled_tail(k, n) {
                 return Err(format!("{follower:?} touches {leader:?} at {k}/{n}"));
             }
         }
@@ -97,14 +104,15 @@ fn apart_throughout(drives: &[Drive]) -> Result<(), Breach> {
     Ok(())
 }
 
-/// Positions must fall from front to back; else the first place that doesn't.
-fn in_order(positions: impl Iterator<Item = i128>) -> Result<(), usize> {
-    let mut ahead = i128::MAX;
-    for (place, position) in positions.enumerate() {
-        if position >= ahead {
+/// Of fronts and tails, from the first place on, each front must lie below all
+/// tails ahead; else the first place whose front doesn't.
+fn in_order(ends: impl Iterator<Item = (i128, i128)>) -> Result<(), usize> {
+    let mut rearmost_tail = i128::MAX;
+    for (place, (front, tail)) in ends.enumerate() {
+        if front >= rearmost_tail {
             return Err(place);
         }
-        ahead = position;
+        rearmost_tail = rearmost_tail.min(tail);
     }
     Ok(())
 }

@@ -17,6 +17,11 @@ impl Drive {
         n * n * position + 2 * speed * k * n + i128::from(self.acceleration) * k * k
     }
 
+    /// n² times the tail's position then, which may lie before the lane's start.
+    pub fn scaled_tail(&self, k: i128, n: i128) -> i128 {
+        self.scaled_position(k, n) - n * n * i128::from(self.carrier.length)
+    }
+
     /// The carrier after the whole cycle.
     pub fn end(&self) -> Carrier {
         self.carrier.after(self.acceleration)
@@ -25,7 +30,7 @@ impl Drive {
     /// The fraction (k, n) at which `self` comes nearest to `leader`, if that
     /// is within the cycle.
     ///
-    /// The gap is a parabola in k/n. It has a lowest point where the follower
+    /// The gap to the leader's tail is a parabola in k/n. It has a lowest point where the follower
     /// closes in at first and brakes harder than the leader, and there k/n is
     /// a ratio of whole numbers: no fraction is nearer than this one.
     pub fn closest_approach(&self, leader: &Drive) -> Option<(i128, i128)> {

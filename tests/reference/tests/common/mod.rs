@@ -1,14 +1,21 @@
 //! Short ways to lanes, wishes and texts.
 #![allow(dead_code)]
 
-use lane_reference::{Call, Carrier, Lane, Refusal, Road, Supervisor, Wish, PLACES};
+use lane_reference::random::table_text;
+use lane_reference::{Call, Carrier, Lane, Refusal, Road, Supervisor, Table, Wish, PLACES};
 
-/// A carrier from number, position and speed.
+/// A carrier of no length from number, position and speed.
 pub fn carrier(number: u64, position: u64, speed: u64) -> Carrier {
+    long_carrier(number, position, speed, 0)
+}
+
+/// A carrier from number, position, speed and length.
+pub fn long_carrier(number: u64, position: u64, speed: u64, length: u64) -> Carrier {
     Carrier {
         number,
         position,
         speed,
+        length,
     }
 }
 
@@ -21,15 +28,21 @@ pub fn road(surface: u64, end: u64, limit: u64) -> Road {
     }
 }
 
-/// A started lane from cycle 0 on, with carriers given as number, position
-/// and speed, front to back, unchecked.
+/// A started lane from cycle 0 on, with carriers of no length given as number,
+/// position and speed, front to back, unchecked.
 pub fn lane(surface: u64, end: u64, limit: u64, carriers: &[(u64, u64, u64)]) -> Lane {
+    let points = carriers
+        .iter()
+        .map(|&(number, position, speed)| carrier(number, position, speed));
+    lane_of(surface, end, limit, &points.collect::<Vec<_>>())
+}
+
+/// As [`lane`], with the carriers themselves.
+pub fn lane_of(surface: u64, end: u64, limit: u64, carriers: &[Carrier]) -> Lane {
     let mut lane = Lane::default();
     lane.start(road(surface, end, limit), 0)
         .expect("a good start");
-    for (place, &(number, position, speed)) in lane.carriers.iter_mut().zip(carriers) {
-        *place = carrier(number, position, speed);
-    }
+    lane.carriers[..carriers.len()].copy_from_slice(carriers);
     lane.count = carriers.len() as u64;
     lane
 }
@@ -50,6 +63,11 @@ pub fn wishes(first: &[Wish]) -> [Wish; PLACES] {
 pub fn full_lane() -> Lane {
     let carriers: Vec<(u64, u64, u64)> = (1..=64).map(|n| (n, 1_000 - n, 0)).collect();
     lane(0, 10_000, 1_000, &carriers)
+}
+
+/// The text of a table that any lane without carriers may load.
+pub fn house_table_text() -> Vec<u8> {
+    table_text(&Table::HOUSE)
 }
 
 /// Asserts that the call is refused with `number` and leaves the lane as it was.
