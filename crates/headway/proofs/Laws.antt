@@ -1,7 +1,7 @@
 -- The laws of two carriers: all that the crates above use of `specs/`, whose definitions they leave shut.
 -- b and B are any rates with 1 ≤ b ≤ B; nothing here knows of rows, places or lanes.
 use mathlib.Core.Path.{_≡_, refl, sym, ap, _∙_}
-use mathlib.Core.Bool.{true, _&&_, and-eq-true-iff}
+use mathlib.Core.Bool.{Bool, true, false, _&&_, and-eq-true-iff}
 use Prim.Native.Nat.{ℕ, zero, suc, _+_, _-_, _*_, _/_, _%_, _^_, _≤_, _<_, min}
 use native.Mathlib.Nat.{add-zero, le-refl, sub-self}
 use native.Mathlib.Omega.{arith}
@@ -153,6 +153,19 @@ safe-by-rests b B p v pL vL hb hB = rw (← rest-is b p v (λ z. omega arith), �
 -- a position moved by m moves the rest
 pub rest-moved : (c p m v : ℕ) → 1 ≤ c → restOf c (p + m) v ≡ restOf c p v + m
 rest-moved c p m v hc = rw (← rest-is c (p + m) v (λ z. omega arith), ← rest-is c p v (λ z. omega arith)) (omega arith)
+
+-- behind one ahead of length m, the length on the follower's side, is behind a point at its tail; and nothing can tell whether a tail before the
+-- start is taken as 0, since nobody is behind it either way
+pub safe-behind-tail : (b B p m v pL vL : ℕ) → safeBehind b B (p + m) v pL vL ≡ safeBehind b B p v (pL - m) vL
+safe-behind-tail b B p m v pL vL =
+    alike (safeBehind b B (p + m) v pL vL) (safeBehind b B p v (pL - m) vL)
+    (λ e. let h = safe-says b B (p + m) v pL vL e in safe-holds b B p v (pL - m) vL (record { below = omega arith; stops-below = omega arith }))
+    (λ e. let h = safe-says b B p v (pL - m) vL e in safe-holds b B (p + m) v pL vL (record { below = omega arith; stops-below = omega arith }))
+  where
+    alike : (s t : Bool) → (s ≡ true → t ≡ true) → (t ≡ true → s ≡ true) → s ≡ t
+    alike true t f g = sym (f refl)
+    alike false true f g = g refl
+    alike false false f g = refl
 
 -- what lets a carrier leave from the middle, whose rate is c and whose length m; l is the length of the one ahead of it: who was behind its tail is
 -- behind that one's

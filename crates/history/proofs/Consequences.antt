@@ -6,13 +6,13 @@ use Prim.Native.Nat.{ℕ, suc, _+_, _-_, _*_, _/_, _%_, _^_, _≤_, _<_}
 use native.Mathlib.Nat.{div-one}
 use native.Mathlib.Omega.{arith}
 use borrow.Author.Tests.{lt-ltb, le-ltb, ltb-true, ltb-false}
-use lib.Dec.{eqb, ltb, ltb→lt, lt→ltb}
+use lib.Dec.{eqb, ltb, ltb→lt}
 use lib.ListN.{length, getD}
 use lib.IntN.{ℤ, pos, _+ℤ_, _*ℤ_}
 use lib.Signed.{_<ℤ_, <ℤ-irrefl}
 use Rattle.headway.specs.Motion.{positionAfter}
 use Rattle.headway.specs.Wishes.{restsBehind}
-use Rattle.headway.proofs.Laws.{fraction-form, fraction-at-start, fraction-at-end, fraction-not-negative}
+use Rattle.headway.proofs.Laws.{fraction-form, fraction-at-start, fraction-at-end}
 use Rattle.wish.specs.declared.Wish.{Wish}
 use Rattle.wish.specs.declared.Wish.the-variants.{Hold}
 use Rattle.lane.specs.declared.Carrier.{Carrier}
@@ -28,6 +28,7 @@ use Rattle.history.specs.Claims.{Kind, begins, loads, runs, other, kindO
 use Rattle.history.specs.History.{Event, callsIn, seen, Ran, Typed, AllTyped, startsLane, Chain, chain-end, chain-next, Throughout, NeverBroken}
 use Rattle.history.proofs.Bits.{below-power}
 use Rattle.history.proofs.Books.{driven-at-least}
+use Rattle.history.proofs.Fronts.{front-below}
 use Rattle.history.proofs.Lasting.{goes-on}
 use Rattle.history.proofs.History.{ran-gives, history}
 use Rattle.history.proofs.Answered.{every-list}
@@ -79,15 +80,15 @@ apart-after after s b c i j d p q e = by-order (ltb i j) refl
     by-order true h = omega (arith, e, c .order i j (ltb-true i j h) q)
     by-order false h = omega (arith, e, c .order j i (omega (arith, d, ltb-false i j h)) p)
 
--- on the lane itself each front is below the tail of every carrier ahead,
+-- on the lane itself each carrier is below every one ahead,
 pub below-after : (after : Words) (s : Seen) (b : Book) → Claims after s b → (i j : ℕ) → i < j → j < length (stateOf after .carriers)
-    → getD (stateOf after .carriers) j none .position + getD (stateOf after .carriers) i none .length < getD (stateOf after .carriers) i none .position
-below-after after s b c i j p q = rw (c .carriers) (c .order i j p (rw (c .carriers) at q))
-
--- and so below its front
-pub fronts-after : (after : Words) (s : Seen) (b : Book) → Claims after s b → (i j : ℕ) → i < j → j < length (stateOf after .carriers)
     → getD (stateOf after .carriers) j none .position < getD (stateOf after .carriers) i none .position
-fronts-after after s b c i j p q = omega (arith, below-after after s b c i j p q)
+below-after after s b c i j p q = rw (c .carriers) (omega (arith, c .order i j p (rw (c .carriers) at q)))
+
+-- and below its tail
+pub behind-tail-after : (after : Words) (s : Seen) (b : Book) → Claims after s b → (i j : ℕ) → i < j → j < length (stateOf after .carriers)
+    → getD (stateOf after .carriers) j none .position + getD (stateOf after .carriers) i none .length < getD (stateOf after .carriers) i none .position
+behind-tail-after after s b c i j p q = rw (c .carriers) (c .order i j p (rw (c .carriers) at q))
 
 -- ---- in a cycle run
 
@@ -98,19 +99,6 @@ endOf b word ws i = positionAfter (carrierAt b i .position) (carrierAt b i .spee
 pos-below : (x m y : ℕ) → (pos (1 * 1 * x) +ℤ pos (1 * 1 * m)) <ℤ pos (1 * 1 * y) → x + m < y
 pos-below x m y h = let k = ltb→lt (1 * 1 * x + 1 * 1 * m) (1 * 1 * y) (h .lt) in omega arith
 
--- in a cycle run each front is below the front of every carrier ahead at every fraction
-pub fronts-within : (after : Words) (count word : ℕ) (ws : List Wish) (b : Book)
-    → Claims after (record { call = cycle-call count ws; refused = false; word = word }) b
-    → (n k i j : ℕ) → 1 ≤ n → k ≤ n → i < j → j < length (b .carriers) → placeAt b word ws n k j <ℤ placeAt b word ws n k i
-fronts-within after count word ws b c n k i j hn hk p q =
-    let tails : pos (place j .0 + n * n * carrierAt b i .length) <ℤ pos (place i .0) = rw (place j .1, place i .1) at (c .cycle-run .0 n k i j hn hk p q) in
-    let below = ltb→lt (place j .0 + n * n * carrierAt b i .length) (place i .0) (tails .lt) in
-    rw (place j .1, place i .1) (record { lt = lt→ltb (place j .0) (place i .0) (omega arith) })
-  where
-    -- no place is negative
-    place : (m : ℕ) → (x : ℕ) × (placeAt b word ws n k m ≡ pos x)
-    place m = fraction-not-negative n k (carrierAt b m .position) (carrierAt b m .speed) _ hk (driven-at-least b word (b .carriers) ws m)
-
 -- no two are level at any fraction
 pub apart-within : (after : Words) (count word : ℕ) (ws : List Wish) (b : Book)
     → Claims after (record { call = cycle-call count ws; refused = false; word = word }) b
@@ -118,8 +106,8 @@ pub apart-within : (after : Words) (count word : ℕ) (ws : List Wish) (b : Book
 apart-within after count word ws b c n k i j hn hk d p q e = by-order (ltb i j) refl
   where
     by-order : (t : Bool) → ltb i j ≡ t → ⊥
-    by-order true h = <ℤ-irrefl (rw e at (fronts-within after count word ws b c n k i j hn hk (ltb-true i j h) q))
-    by-order false h = <ℤ-irrefl (rw (sym e) at (fronts-within after count word ws b c n k j i hn hk (omega (arith, d, ltb-false i j h)) p))
+    by-order true h = <ℤ-irrefl (rw e at (front-below (placeAt b word ws n k j) (placeAt b word ws n k i) (n * n * carrierAt b i .length) (c .cycle-run .0 n k i j hn hk (ltb-true i j h) q)))
+    by-order false h = <ℤ-irrefl (rw (sym e) at (front-below (placeAt b word ws n k i) (placeAt b word ws n k j) (n * n * carrierAt b j .length) (c .cycle-run .0 n k j i hn hk (omega (arith, d, ltb-false i j h)) p)))
 
 module _ (after : Words) (count word : ℕ) (ws : List Wish) (b : Book)
     (c : Claims after (record { call = cycle-call count ws; refused = false; word = word }) b) where
@@ -128,17 +116,27 @@ module _ (after : Words) (count word : ℕ) (ws : List Wish) (b : Book)
   driven i = getD (drivenIn b word (b .carriers) ws) i (pos 0)
 
   module _ (i j : ℕ) (p : i < j) (q : j < length (b .carriers)) where
-    -- at every fraction each is below the tail of every one ahead, in the document's own form: "n² times the position is n²p + 2vkn + ak²"
+    -- at every fraction each is below every one ahead, in the document's own form: "n² times the position is n²p + 2vkn + ak²"
     pub below-within : (n k : ℕ) → 1 ≤ n → k ≤ n
-        → (pos (n * n * carrierAt b j .position) +ℤ pos (2 * carrierAt b j .speed * k * n) +ℤ driven j *ℤ pos (k * k) +ℤ pos (n * n * carrierAt b i .length))
+        → (pos (n * n * carrierAt b j .position) +ℤ pos (2 * carrierAt b j .speed * k * n) +ℤ driven j *ℤ pos (k * k))
         <ℤ (pos (n * n * carrierAt b i .position) +ℤ pos (2 * carrierAt b i .speed * k * n) +ℤ driven i *ℤ pos (k * k))
     below-within n k hn hk =
         rw (
           fraction-form n k (carrierAt b j .position) (carrierAt b j .speed) (driven j),
           fraction-form n k (carrierAt b i .position) (carrierAt b i .speed) (driven i),
+        ) at (front-below (placeAt b word ws n k j) (placeAt b word ws n k i) (n * n * carrierAt b i .length) (c .cycle-run .0 n k i j hn hk p q))
+
+    -- and below its tail, which is n² times the length further back
+    pub behind-tail-within : (n k : ℕ) → 1 ≤ n → k ≤ n
+        → (pos (n * n * carrierAt b j .position) +ℤ pos (2 * carrierAt b j .speed * k * n) +ℤ driven j *ℤ pos (k * k) +ℤ pos (n * n * carrierAt b i .length))
+        <ℤ (pos (n * n * carrierAt b i .position) +ℤ pos (2 * carrierAt b i .speed * k * n) +ℤ driven i *ℤ pos (k * k))
+    behind-tail-within n k hn hk =
+        rw (
+          fraction-form n k (carrierAt b j .position) (carrierAt b j .speed) (driven j),
+          fraction-form n k (carrierAt b i .position) (carrierAt b i .speed) (driven i),
         ) at (c .cycle-run .0 n k i j hn hk p q)
 
-    -- so at its start and at its end, where those are who are gone after it too, in the very positions
+    -- so below its tail at the cycle's start and at its end, where those are who are gone after it too, in the very positions
     pub apart-at-start : carrierAt b j .position + carrierAt b i .length < carrierAt b i .position
     apart-at-start =
         pos-below (carrierAt b j .position) (carrierAt b i .length) (carrierAt b i .position)

@@ -2,7 +2,7 @@
 use mathlib.Core.Path.{_≡_, refl, sym, ap, _∙_}
 use mathlib.Core.Bool.{Bool, true, false, not, cond, _&&_}
 use mathlib.Core.List.{List}
-use Prim.Native.Nat.{ℕ, _-_, _<_}
+use Prim.Native.Nat.{ℕ, _+_, _-_, _<_}
 use native.Mathlib.Omega.{arith}
 use borrow.Author.Tests.{ltb-true}
 use lib.Dec.{ltb}
@@ -14,7 +14,7 @@ use Rattle.headway.specs.Wishes.{restsBehind}
 use Rattle.wish.specs.declared.Wish.{Wish}
 use Rattle.lane.specs.declared.Carrier.{Carrier}
 use Rattle.lane.specs.Surface.{rowIn}
-use Rattle.lane.specs.Safety.{guaranteedRate, reachTo}
+use Rattle.lane.specs.Safety.{guaranteedRate}
 use Rattle.lane.specs.State.{State}
 use Rattle.lane.proofs.CycleLaws.{CycleRun, carrierOf, wishOf}
 use Rattle.history.specs.Book.{Book, trimmedIn, drivenIn, drivenOn}
@@ -51,7 +51,7 @@ module _ (s : State) (ws : List Wish) (word : ℕ) (after : List Carrier) (r : C
   run-replaces-crossing i = r .replaces i ∙ ap (λ (t : Bool). ltb 0 i && t) (by-test (ltb i (length (s .carriers))) refl)
     where
       rests : ℤ → Bool
-      rests w = restsBehind (guaranteedRate (rowIn (s .tables) (s .road)) (carrierOf s i)) (rowIn (s .tables) (s .road) .hardest) (reachTo (carrierOf s (i - 1)) (carrierOf s i)) (carrierOf s i .speed) w (carrierOf s (i - 1) .position) (carrierOf s (i - 1) .speed)
+      rests w = restsBehind (guaranteedRate (rowIn (s .tables) (s .road)) (carrierOf s i)) (rowIn (s .tables) (s .road) .hardest) (carrierOf s i .position + carrierOf s (i - 1) .length) (carrierOf s i .speed) w (carrierOf s (i - 1) .position) (carrierOf s (i - 1) .speed)
 
       by-test : (t : Bool) → ltb i (length (s .carriers)) ≡ t → t && not (rests (r .trimmed i)) ≡ t && not (rests (trimmedIn (bookOf s) (carrierOf s i) (wishOf ws i)))
       by-test true e = ap (λ (w : ℤ). not (rests w)) (sym (same-wish i (ltb-true i (length (s .carriers)) e)))

@@ -2,7 +2,7 @@
 use mathlib.Core.Path.{_≡_, refl, sym, ap, _∙_, subst}
 use mathlib.Core.Bool.{Bool, true, false, not, _&&_, cond, true≢false, and-eq-true-iff}
 use mathlib.Core.List.{List, [], _∷_}
-use Prim.Native.Nat.{ℕ, suc, _<_}
+use Prim.Native.Nat.{ℕ, suc, _+_, _<_}
 use native.Mathlib.Omega.{arith}
 use borrow.Author.Tests.{ltb-true, ltb-false}
 use lib.Dec.{eqb, leb, ltb}
@@ -15,7 +15,7 @@ use Rattle.lane.specs.Limits.{farthestEnd, fastest, lastCycle}
 use Rattle.lane.specs.Surface.{houseRows, rowOf, soundRow, unsoundBelow, unsound, rowIn}
 use Rattle.lane.specs.Layout.{tableFrom, stateOf, emptyWords}
 use Rattle.lane.specs.State.{State}
-use Rattle.lane.specs.Safety.{leader, reachTo, safeWith, anyOf, firstPlace, numbered}
+use Rattle.lane.specs.Safety.{leader, safeWith, anyOf, firstPlace, numbered}
 use Rattle.lane.specs.Rules.{outsideOf, badNumber, tooFast, tooLong, roadNo, newcomerNo, broken}
 use Rattle.lane.specs.Wishes.{anyOutside}
 use Rattle.lane.specs.Table.{tableIn, badTable, rowsLoaded, loadNo, loadedState}
@@ -157,9 +157,9 @@ kept-not-21 x s h e = true≢false (sym (rw (h .unbroken, e) at (lawful x .numbe
 pub two-digits : (x : Call) (s : State) → callNo x s < 100
 two-digits x s = ltb-true (callNo x s) 100 (and-eq-true-iff (not (eqb (callNo x s) 21 && not (broken s))) (ltb (callNo x s) 100) .0 (lawful x .numbered s) .1)
 
--- each carrier is below every one ahead
+-- each front is below the tail of every carrier ahead
 pub kept-in-order : (s : State) → Kept s → (i j : ℕ) → i < j → j < length (s .carriers)
-    → reachTo (getD (s .carriers) i none) (getD (s .carriers) j none) < getD (s .carriers) i none .position
+    → getD (s .carriers) j none .position + getD (s .carriers) i none .length < getD (s .carriers) i none .position
 kept-in-order s h = lane-order (rowIn (s .tables) (s .road)) (s .carriers) (sound s (h .unbroken) .carriers .safe)
 
 -- ---- what an accepted call does, by `accepted-changes`; a cycle is in `CycleLaws`

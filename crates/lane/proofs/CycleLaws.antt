@@ -1,4 +1,4 @@
--- What an accepted cycle does, for the crates above: `CycleRun`, place by place, in words of headway and wish, `guaranteedRate` and `reachTo`.
+-- What an accepted cycle does, for the crates above: `CycleRun`, place by place, in words of headway and wish, and `guaranteedRate`.
 use mathlib.Core.Path.{_≡_, refl, sym, ap, _∙_}
 use mathlib.Core.Bool.{Bool, true, false, not, _&&_, cond, true≢false}
 use mathlib.Core.List.{List, [], _∷_, map}
@@ -25,7 +25,7 @@ use Rattle.lane.specs.declared.Road.{Road}
 use Rattle.lane.specs.declared.Row.{Row}
 use Rattle.lane.specs.Surface.{rowIn}
 use Rattle.lane.specs.State.{State}
-use Rattle.lane.specs.Safety.{Ahead, nobody, leader, guaranteedRate, reachTo}
+use Rattle.lane.specs.Safety.{Ahead, nobody, leader, guaranteedRate}
 use Rattle.lane.specs.Rules.{pastEnd}
 use Rattle.lane.specs.Wishes.{isOutside, unitsIn, wishedUnits, anyOutside, trimmed, stands, drive, drives, moved, allMoved, replacedIn, bit, wordOf, remaining}
 use Rattle.lane.specs.Calls.{none, withCarriers, atCycle, cycleDrives, cycleNo, cycleWord, cycleCarriers, cycledState}
@@ -75,11 +75,11 @@ pub record CycleRun (s : State) (ws : List Wish) (word : ℕ) (after : List Carr
   pub drives-as-told : (i : ℕ) → i < length (s .carriers)
       → getD accelerations i (pos 0)
       ≡ cond (bitSet word i) (braking (guaranteedRate (rowIn (s .tables) (s .road)) (carrierOf s i)) (carrierOf s i .speed)) (trimmed i)
-  -- a wish is replaced exactly where the carrier would not rest behind the one next ahead
+  -- a wish is replaced exactly where the carrier would not rest behind the tail of the one next ahead
   pub replaces : (i : ℕ) → bitSet word i
       ≡ ltb 0 i
       && (ltb i (length (s .carriers))
-      && not (restsBehind (guaranteedRate (rowIn (s .tables) (s .road)) (carrierOf s i)) (rowIn (s .tables) (s .road) .hardest) (reachTo (carrierOf s (i - 1)) (carrierOf s i)) (carrierOf s i .speed) (trimmed i) (carrierOf s (i - 1) .position) (carrierOf s (i - 1) .speed)))
+      && not (restsBehind (guaranteedRate (rowIn (s .tables) (s .road)) (carrierOf s i)) (rowIn (s .tables) (s .road) .hardest) (carrierOf s i .position + carrierOf s (i - 1) .length) (carrierOf s i .speed) (trimmed i) (carrierOf s (i - 1) .position) (carrierOf s (i - 1) .speed)))
   pub leaves : Drove (s .road .end) (s .carriers) accelerations after
   -- at each fraction of the cycle each front is below the tail of every carrier ahead
   pub apart : (n k i j : ℕ) → 1 ≤ n → k ≤ n → i < j → j < length (s .carriers)
