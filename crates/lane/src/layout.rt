@@ -240,15 +240,15 @@ pub(crate) fn move_record(l: &mut Lane, from: usize, to: usize, position: u64, s
     ensures { λ r. ⌜ (figuresIn (now (l .exit)) ≡ figuresIn (now (l .entry))) × (tablesIn (now (l .exit)) ≡ tablesIn (now (l .entry))) ⌝ }
     ensures { λ r. ⌜ recordsIn (now (l .exit)) ≡ set (recordsIn (now (l .entry))) to (record { number = getD (recordsIn (now (l .entry))) from none .number; position = position; speed = speed; length = getD (recordsIn (now (l .entry))) from none .length }) ⌝ }
 {
-    let c = carrier_at(l, from);
+    let kept = carrier_at(l, from);
     put_carrier(
         l,
         to,
         Carrier {
-            number: c.number,
+            number: kept.number,
             position,
             speed,
-            length: c.length,
+            length: kept.length,
         },
     );
 }

@@ -114,6 +114,7 @@ counted-most l = omega (arith, length-take (stateOf l .count) (recordsIn l))
 -- an enter
 pub record Enters (s : State) (c : Carrier) : Type 0 where
   pub sound : Sound s
+  pub own : newcomerNo (s .road) c ≡ 0
   pub lawful : unlawful (s .road) c ≡ false
   pub before-end : pastEnd (s .road) c ≡ false
   pub room : s .count < 64
@@ -131,6 +132,7 @@ enter-tells s c e =
     let most : ¬ (s .count ≡ 64) = eqb-false (s .count) 64 (full .0) in
     record {
       sound = h;
+      own = own .0;
       lawful = itself .lawful;
       before-end = itself .before-end;
       room = omega (arith, h .count);

@@ -51,7 +51,7 @@ past-length c =
     from-none n = omega arith
 
 sub-result : tie.Need-sub-result
-sub-result c = past-length (c .before)
+sub-result c = omega (arith, past-length (c .before))
 
 returns-2 : tie.Need-returns-2
 returns-2 c =
