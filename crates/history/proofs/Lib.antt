@@ -10,3 +10,4 @@ pub mod History
 pub mod Answered
 pub mod Consequences
 pub mod Rows
+pub mod Remaining

@@ -4,7 +4,7 @@ use mathlib.Core.Bool.{Bool, true, false, not, _&&_, cond, true≢false, and-eq-
 use mathlib.Core.List.{List, [], _∷_}
 use Prim.Native.Nat.{ℕ, suc, _+_, _<_}
 use native.Mathlib.Omega.{arith}
-use borrow.Author.Tests.{ltb-true, ltb-false, leb-false}
+use borrow.Author.Tests.{ltb-true, ltb-false}
 use lib.Dec.{eqb, leb, ltb}
 use lib.ListN.{length, getD, take}
 use Rattle.wish.specs.declared.Wish.{Wish}
@@ -22,8 +22,8 @@ use Rattle.lane.specs.Table.{tableIn, badTable, rowsLoaded, loadNo, load
 use Rattle.lane.specs.Calls.{none, withCarriers, startNo, begunState, aheadOf, walk, gapNo, placeNo, enterNo, insertAt, enteredState, namedNo, placeOf, removeAt, leftState, readyNo, cycleNo}
 use Rattle.lane.specs.Listing.{laneText, textNo}
 use Rattle.lane.specs.Call.{Call, start-call, load-call, enter-call, leave-call, cycle-call, read-call, text-call, Meaning, meaning, callNo, acceptedState, callState, Kept}
-use Rattle.lane.proofs.lists.Passed.{both, passed}
-use Rattle.lane.proofs.calls.Answers.{accepted-changes, accepted-sound, load-tells, enter-tells}
+use Rattle.lane.proofs.lists.Passed.{both}
+use Rattle.lane.proofs.calls.Answers.{accepted-changes, accepted-sound, load-tells}
 use Rattle.lane.proofs.checks.Records.{code-by-code}
 use Rattle.lane.proofs.checks.Soundness.{Sound, sound, sound-holds}
 use Rattle.lane.proofs.calls.Order.{lane-order}
@@ -161,13 +161,6 @@ two-digits x s = ltb-true (callNo x s) 100 (and-eq-true-iff (not (eqb (callNo x 
 pub kept-in-order : (s : State) → Kept s → (i j : ℕ) → i < j → j < length (s .carriers)
     → getD (s .carriers) j none .position + getD (s .carriers) i none .length < getD (s .carriers) i none .position
 kept-in-order s h = lane-order (rowIn (s .tables) (s .road)) (s .carriers) (sound s (h .unbroken) .carriers .safe)
-
--- who enters has its front before the end: 5 goes by the front, and not by the tail as 21 does
-pub enters-before-end : (s : State) (c : Carrier) → enterNo s c ≡ 0 → c .position < s .road .end
-unfolding newcomerNo
-enters-before-end s c e =
-    let number = passed (badNumber (c .number)) 3 _ (enter-tells s c e .own) in
-    leb-false (s .road .end) (c .position) (passed (leb (s .road .end) (c .position)) 4 _ (number .1) .0)
 
 -- ---- what an accepted call does, by `accepted-changes`; a cycle is in `CycleLaws`
 

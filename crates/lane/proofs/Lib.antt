@@ -1,10 +1,11 @@
--- `Laws`, `Alike`, `CallLaws`, `CycleLaws`, `TableLaws` and `Answerable` are what the crates above may use; `Cases` is the table of the marked
--- cases, and `Looked` says what a lookup's count means. Before them stand the laws behind them and behind the functions, in groups; a function's
+-- `Laws`, `Alike`, `CallLaws`, `CycleLaws`, `TableLaws` and `Answerable` are what the crates above may use; `Newcomers` has an entry's own values in
+-- numbers, `Cases` is the table of the marked cases, and `Looked` says what a lookup's count means. Before them stand the laws behind them and behind the functions, in groups; a function's
 -- own proof is in a folder of its module's and its own name.
 mod lists
 mod checks
 mod driving
 mod calls
+pub mod Newcomers
 pub mod Laws
 mod Cases
 mod Looked

@@ -41,7 +41,7 @@ unlawful road c = badNumber (c .number) || tooFast road c || tooLong c
 unfoldable pub pastEnd : Road → Carrier → Bool
 pastEnd road c = leb (road .end + c .length) (c .position)
 
--- carriers of which one breaks a rule: by itself, its tail past the end, by a number that stands twice, or not safe
+-- carriers of which one breaks a rule: by itself, by a tail at or past the end, by a number that stands twice, or not safe
 unfoldable pub faulty : Row → Road → List Carrier → Bool
 faulty r road cs = anyOf (λ c. unlawful road c || pastEnd road c) cs || repeats cs || not (laneSafe r cs)
 

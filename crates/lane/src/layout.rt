@@ -233,22 +233,3 @@ pub(crate) fn copy_record(l: &mut Lane, from: usize, to: usize)
     let c = carrier_at(l, from);
     put_carrier(l, to, c);
 }
-
-// The record at one place put at another with a position and a speed of its own. What stays is read from its row: held by the caller it costs more.
-pub(crate) fn move_record(l: &mut Lane, from: usize, to: usize, position: u64, speed: u64)
-    requires { ⌜ (from < 64) × (to < 64) ⌝ }
-    ensures { λ r. ⌜ (figuresIn (now (l .exit)) ≡ figuresIn (now (l .entry))) × (tablesIn (now (l .exit)) ≡ tablesIn (now (l .entry))) ⌝ }
-    ensures { λ r. ⌜ recordsIn (now (l .exit)) ≡ set (recordsIn (now (l .entry))) to (record { number = getD (recordsIn (now (l .entry))) from none .number; position = position; speed = speed; length = getD (recordsIn (now (l .entry))) from none .length }) ⌝ }
-{
-    let kept = carrier_at(l, from);
-    put_carrier(
-        l,
-        to,
-        Carrier {
-            number: kept.number,
-            position,
-            speed,
-            length: kept.length,
-        },
-    );
-}

@@ -163,9 +163,9 @@ pub(crate) struct Left {
     pub(crate) word: u64,
 }
 
-// The carrier of a place, as it has moved, put behind the `left` ones that are left, unless it is gone; how many are left then.
-fn keep(l: &mut Lane, road: Road, from: usize, left: usize, c: Carrier) -> usize
-    requires { ⌜ (from < 64) × ((left < 64) × ((getD (recordsIn (now l)) from none .number ≡ c .number) × (getD (recordsIn (now l)) from none .length ≡ c .length))) ⌝ }
+// A carrier that has moved put behind the `left` ones that are left, unless it is gone; how many are left then.
+fn keep(l: &mut Lane, road: Road, left: usize, c: Carrier) -> usize
+    requires { ⌜ left < 64 ⌝ }
     ensures { λ r. ⌜ (figuresIn (now (l .exit)) ≡ figuresIn (now (l .entry))) × (tablesIn (now (l .exit)) ≡ tablesIn (now (l .entry))) ⌝ }
     ensures { λ r. ⌜ recordsIn (now (l .exit)) ≡ cond (pastEnd road c) (recordsIn (now (l .entry))) (set (recordsIn (now (l .entry))) left c) ⌝ }
     ensures { λ r. ⌜ r ≡ cond (pastEnd road c) left (left + 1) ⌝ }
@@ -173,7 +173,7 @@ fn keep(l: &mut Lane, road: Road, from: usize, left: usize, c: Carrier) -> usize
     if rules::past_end(road, c) {
         return left;
     }
-    layout::move_record(l, from, left, c.position, c.speed);
+    layout::put_carrier(l, left, c);
     left + 1
 }
 
@@ -195,7 +195,7 @@ fn drive_all(l: &mut Lane, road: Road, row: Row, count: usize, units: &[i32; 64]
         let c = layout::carrier_at(l, i);
         let d = drive_one(row, road.limit, i == 0, ahead, c, units[i] as i64);
         word = marked(word, i, d.replaced);
-        left = keep(l, road, i, left, move_one(c, d.acceleration));
+        left = keep(l, road, left, move_one(c, d.acceleration));
         ahead = c;
         i += 1;
     }

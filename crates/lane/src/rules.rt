@@ -28,7 +28,7 @@ use crate::lookup;
 use crate::places;
 use crate::rows;
 
-// A number of a lawful carrier or of a sound row, which 32 bits hold.
+// A number that 32 bits hold, as those of a lawful carrier and of a sound row, or such a position and a length.
 pub(crate) fn narrow(x: u64) -> u32
     requires { ⌜ x < 4294967296 ⌝ }
     ensures { λ r. ⌜ r ≡ x ⌝ }

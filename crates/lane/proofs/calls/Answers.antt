@@ -21,7 +21,8 @@ use Rattle.lane.specs.Calls.{ifAccepted, walk, gapNo, placeNo, enterNo, 
 use Rattle.lane.specs.Call.{Call, Answer, callNo, acceptedState, lentTo, bare, acceptedAnswer, callAnswer, callState, Gives}
 use Rattle.lane.proofs.lists.Passed.{passed}
 use Rattle.lane.proofs.lists.Search.{place-any, place-le}
-use Rattle.lane.proofs.checks.Soundness.{newcomer, Sound, sound}
+use Rattle.lane.proofs.Newcomers.{newcomer-is}
+use Rattle.lane.proofs.checks.Soundness.{newcomer-lawful, newcomer-before-end, Sound, sound}
 
 -- a value of a call that is refused, and of one that is accepted
 refused-has : {A : Type 0} (n : ℕ) (x y : A) → ¬ (n ≡ 0) → ifAccepted n x y ≡ y
@@ -114,7 +115,6 @@ counted-most l = omega (arith, length-take (stateOf l .count) (recordsIn l))
 -- an enter
 pub record Enters (s : State) (c : Carrier) : Type 0 where
   pub sound : Sound s
-  pub own : newcomerNo (s .road) c ≡ 0
   pub lawful : unlawful (s .road) c ≡ false
   pub before-end : pastEnd (s .road) c ≡ false
   pub room : s .count < 64
@@ -126,15 +126,14 @@ unfolding enterNo placeNo
 enter-tells s c e =
     let h = accepted-sound s _ e in
     let own = accepted-both (newcomerNo (s .road) c) (placeNo s c) (passed (broken s) 20 _ e .1) in
-    let itself = newcomer (s .road) c (own .0) in
+    let itself = newcomer-is (s .road) c (own .0) in
     let full = passed (eqb (s .count) mostCarriers) 21 _ (own .1) in
     let present = passed (anyOf (numbered (c .number)) (s .carriers)) 22 _ (full .1) in
     let most : ¬ (s .count ≡ 64) = eqb-false (s .count) 64 (full .0) in
     record {
       sound = h;
-      own = own .0;
-      lawful = itself .lawful;
-      before-end = itself .before-end;
+      lawful = newcomer-lawful (s .road) c itself;
+      before-end = newcomer-before-end (s .road) c itself;
       room = omega (arith, h .count);
       new = present .0;
       gap = present .1;

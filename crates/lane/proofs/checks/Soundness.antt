@@ -17,6 +17,7 @@ use Rattle.lane.specs.Layout.{Words, figuresIn, tablesIn, recordsIn, sta
 use Rattle.lane.specs.State.{State}
 use Rattle.lane.specs.Safety.{laneSafe, anyOf, repeats}
 use Rattle.lane.specs.Rules.{outsideOf, badNumber, roadNo, tooFast, tooLong, unlawful, pastEnd, faulty, broken, newcomerNo}
+use Rattle.lane.proofs.Newcomers.{Newcomer, newcomer-is}
 use Rattle.lane.proofs.lists.Lists.{slice-next}
 use Rattle.lane.proofs.lists.Tests.{neither, none-at, none-of, any-or}
 use Rattle.lane.proofs.lists.Passed.{passed}
@@ -83,26 +84,26 @@ fit road c e p =
       before-end = leb-false (road .end + c .length) (c .position) p;
     }
 
--- what a newcomer's own checks say of it: where its front is before the end, its tail is
-pub record Newcomer (road : Road) (c : Carrier) : Type 0 where
-  pub lawful : unlawful road c ≡ false
-  pub before-end : pastEnd road c ≡ false
+-- a newcomer that passes its own checks: where its front is before the end, its tail is
+pub newcomer-lawful : (road : Road) (c : Carrier) → Newcomer road c → unlawful road c ≡ false
+unfolding unlawful
+newcomer-lawful road c h =
+    rw (
+      le-ltb (c .number) 1 (h .number-least),
+      le-ltb 65535 (c .number) (h .number-most),
+      le-ltb (road .limit) (c .speed) (h .slow),
+      le-ltb 65535 (c .length) (h .short),
+    )
+    refl
 
-pub newcomer : (road : Road) (c : Carrier) → newcomerNo road c ≡ 0 → Newcomer road c
-unfolding newcomerNo unlawful pastEnd
-newcomer road c e =
-    let number = passed (badNumber (c .number)) 3 _ e in
-    let position = passed (leb (road .end) (c .position)) 4 _ (number .1) in
-    let speed = passed (tooFast road c) 5 _ (position .1) in
-    let length = passed (tooLong c) 32 0 (speed .1) in
-    let front = leb-false (road .end) (c .position) (position .0) in
-    record {
-      lawful = rw (number .0, speed .0, length .0) refl;
-      before-end = lt-leb (road .end + c .length) (c .position) (omega arith);
-    }
+pub newcomer-before-end : (road : Road) (c : Carrier) → Newcomer road c → pastEnd road c ≡ false
+unfolding pastEnd
+newcomer-before-end road c h = lt-leb (road .end + c .length) (c .position) (omega (arith, h .front-before-end))
 
 pub newcomer-fit : (road : Road) (c : Carrier) → newcomerNo road c ≡ 0 → Fit road c
-newcomer-fit road c e = let h = newcomer road c e in fit road c (h .lawful) (h .before-end)
+newcomer-fit road c e =
+    let h = newcomer-is road c e in
+    record { number-least = h .number-least; number-most = h .number-most; slow = h .slow; short = h .short; before-end = omega (arith, h .front-before-end) }
 
 -- its numbers are 32 bits wide, its position even with a length added, and its speed within every limit
 pub record Narrow (c : Carrier) : Type 0 where

@@ -44,11 +44,6 @@ moved-is c a l x y q p =
     let there = ap (λ (u : ℕ). positionAfter (c .position) (c .speed) (pos u -ℤ pos (c .speed))) q in
     rw (p ∙ there ∙ reached-after (c .position) (c .speed) a (speedAfter (c .speed) a) (l .sum), q) refl
 
--- what a carrier keeps
-pub moved-keeps : (c : Carrier) (a : ℤ) → (moved c a .number ≡ c .number) × (moved c a .length ≡ c .length)
-unfolding moved
-moved-keeps c a = (refl, refl)
-
 -- ---- whether a trimmed wish stands
 module _ (r : Row) (foremost : Bool) (ahead c : Carrier) (w : ℤ) where
   pub foremost-stands : foremost ≡ true → true ≡ stands r (cond foremost nobody (leader ahead)) c w

@@ -16,7 +16,6 @@ use Rattle.lane.specs.Wishes.{drive, moved}
 use Rattle.lane.specs.Calls.{none}
 use Rattle.lane.proofs.checks.Records.{same-head}
 use Rattle.lane.proofs.checks.Soundness.{SoundRoad, sound-road, Fit, fit-of, faultless, Narrow, fit-narrow}
-use Rattle.lane.proofs.driving.Drives.{moved-keeps}
 use Rattle.lane.proofs.driving.Cycles.{aheadAt, Driving, driving-start, word-below, here, driving-on, all-marked, all-kept}
 use Rattle.lane.proofs.motion.drive_all.Statement.{statement}
 use Rattle.lane.proofs.motion.drive_all.Tie as tie
@@ -116,17 +115,8 @@ move-one-requires c κs =
 
 keep-requires : tie.Need-keep-requires Inv-loop μ-loop
 keep-requires c κs =
-    let d = c .before .before .before .before in
-    let k = d .before .before in
-    let few = s k .pre .0 .0 in
-    let same : (f : Carrier → ℕ) → f (moved (k .carrier-at .result) _) ≡ f (k .carrier-at .result) → f (getD (recordsIn (at k .loop .l)) (at k .loop .i) none) ≡ f (c .move-one .result) =
-    λ f e. ap f (sym (k .carrier-at .ensures)) ∙ sym (ap f (c .move-one .ensures) ∙ e) in (
-      omega (arith, below k, few),
-      (
-        omega (arith, below k, few, at k .loop .inv .1 .few),
-        (same (λ x. x .number) (moved-keeps (k .carrier-at .result) _ .0), same (λ x. x .length) (moved-keeps (k .carrier-at .result) _ .1)),
-      ),
-    )
+    let k = c .before .before .before .before .before .before in
+    omega (arith, below k, s k .pre .0 .0, at k .loop .inv .1 .few)
 
 add-i : tie.Need-add-i Inv-loop μ-loop
 add-i c = let k = c .before .before .before .before .before .before .before in omega (arith, below k, s k .pre .0 .0)

@@ -1,9 +1,9 @@
 -- The checks are made in the order of `newcomerNo`, and each answer is the first that fails.
 use mathlib.Core.Path.{_≡_, refl, sym, _∙_}
-use mathlib.Core.Bool.{false}
+use mathlib.Core.Bool.{false, cond}
 use borrow.Author.Needs.{needs}
 use borrow.Author.Tests.{lt-ltb, le-ltb, le-leb, lt-leb}
-use Rattle.lane.specs.Rules.{badNumber, newcomerNo}
+use Rattle.lane.specs.Rules.{badNumber, tooFast, tooLong, newcomerNo}
 use Rattle.lane.proofs.rules.newcomer_refusal.Statement.{statement}
 use Rattle.lane.proofs.rules.newcomer_refusal.Tie as tie
 
@@ -21,25 +21,20 @@ returns-2 : tie.Need-returns-2
 unfolding newcomerNo
 returns-2 c = rw (good-number (c .before .before .before), le-leb _ _ (c .if2 .taken)) refl
 
-returns-3 : tie.Need-returns-3
+-- past the position the speed decides, and then the length
+speed-decides : (c : tie.Else2) → let a = c .before .before .before .before .before .args in
+    newcomerNo (a .road) (a .c) ≡ cond (tooFast (a .road) (a .c)) 6 (cond (tooLong (a .c)) 33 0)
 unfolding newcomerNo
-returns-3 c =
-    let at-end = c .before .before .before in
-    rw (good-number (at-end .before .before .before), lt-leb _ _ (at-end .if2 .left), lt-ltb _ _ (c .if3 .taken)) refl
+speed-decides c = rw (good-number (c .before .before .before), lt-leb _ _ (c .if2 .left)) refl
+
+returns-3 : tie.Need-returns-3
+returns-3 c = rw (speed-decides (c .before .before .before), lt-ltb _ _ (c .if3 .taken)) refl
 
 returns-4 : tie.Need-returns-4
-unfolding newcomerNo
-returns-4 c =
-    let at-limit = c .before .before in
-    let at-end = at-limit .before .before .before in
-    rw (good-number (at-end .before .before .before), lt-leb _ _ (at-end .if2 .left), le-ltb _ _ (at-limit .if3 .left), lt-ltb _ _ (c .if4 .taken)) refl
+returns-4 c = let slow = c .before .before in rw (speed-decides (slow .before .before .before), le-ltb _ _ (slow .if3 .left), lt-ltb _ _ (c .if4 .taken)) refl
 
 returns-5 : tie.Need-returns-5
-unfolding newcomerNo
-returns-5 c =
-    let at-limit = c .before .before in
-    let at-end = at-limit .before .before .before in
-    rw (good-number (at-end .before .before .before), lt-leb _ _ (at-end .if2 .left), le-ltb _ _ (at-limit .if3 .left), le-ltb _ _ (c .if4 .left)) refl
+returns-5 c = let slow = c .before .before in rw (speed-decides (slow .before .before .before), le-ltb _ _ (slow .if3 .left), le-ltb _ _ (c .if4 .left)) refl
 
 pub newcomer-refusal-spec : {M : Type 1} → statement M
 newcomer-refusal-spec =
