@@ -26,7 +26,7 @@ pub record Seen : Type 0 where
   pub word : ℕ
 
 -- "It holds surface, end, limit and the carriers front to back, each with number, position and speed."; document 02, T-01: "The road book holds
--- the rows in force and those for the next start too"; T-03: each with its length, which "Each entry gains"
+-- the rows in force and those for the next start too"; T-03: "Each entry gains a length", which the carrier keeps
 pub record Book : Type 0 where
   pub road : Road
   pub tables : Tables

@@ -2,7 +2,7 @@
 
 mod common;
 
-use common::{carrier, lane_of, long_carrier, refused, road, wishes};
+use common::{calls_that_look, carrier, lane_of, long_carrier, refused, road, wishes};
 use lane_reference::carrier::LONGEST_CARRIER;
 use lane_reference::headway::{rests_behind, safe_behind};
 use lane_reference::stopping::{distance, Fast, Summed};
@@ -24,23 +24,8 @@ fn entered(lane: &Lane, newcomer: Carrier, place: usize) {
     assert_eq!(answer, Ok(place), "{newcomer:?} on {:?}", lane.present());
 }
 
-/// The calls that look at the whole lane.
-fn others() -> [Call; 6] {
-    [
-        enter(0, 0, 0, 0),
-        Call::Leave { number: 0 },
-        Call::Read { number: 0 },
-        Call::LaneText { room: 0 },
-        Call::Load { text: Vec::new() },
-        Call::Cycle {
-            count: 9,
-            wishes: Box::new(wishes(&[])),
-        },
-    ]
-}
-
 fn judged_unsound(lane: &Lane) {
-    for call in others() {
+    for call in calls_that_look() {
         refused(lane, 21, call);
     }
     let start = Call::Start {

@@ -3,7 +3,7 @@
 
 mod common;
 
-use common::{carrier, example_lane, lane, refused, road, wishes};
+use common::{calls_that_look, carrier, example_lane, lane, refused, road, wishes};
 use lane_reference::random::{
     break_line, malformed_table_text, never_started_lane, sound_table, table_text, unsound_table,
     Random, LINE_BREAKS, TABLE_BREAKS, TEXT_BREAKS,
@@ -159,21 +159,6 @@ fn a_lane_never_started_counts_as_empty_and_sound() {
     }
 }
 
-/// The calls that look at the whole lane.
-fn others() -> [Call; 6] {
-    [
-        Call::Enter(carrier(0, 0, 0)),
-        Call::Leave { number: 0 },
-        Call::Read { number: 0 },
-        Call::LaneText { room: 0 },
-        Call::Load { text: Vec::new() },
-        Call::Cycle {
-            count: 9,
-            wishes: Box::new(wishes(&[])),
-        },
-    ]
-}
-
 #[test]
 fn an_unsound_row_of_either_set_is_21() {
     for code in 0..8 {
@@ -182,7 +167,7 @@ fn an_unsound_row_of_either_set_is_21() {
             now.tables.in_force.0[code] = unsound;
             let mut next = example_lane(1_000);
             next.tables.for_next_start.0[code] = unsound;
-            for call in others() {
+            for call in calls_that_look() {
                 refused(&now, 21, call.clone());
                 refused(&next, 21, call);
             }

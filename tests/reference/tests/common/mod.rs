@@ -59,6 +59,21 @@ pub fn wishes(first: &[Wish]) -> [Wish; PLACES] {
     wishes
 }
 
+/// The calls that look at the whole lane: a start does not.
+pub fn calls_that_look() -> [Call; 6] {
+    [
+        Call::Enter(carrier(0, 0, 0)),
+        Call::Leave { number: 0 },
+        Call::Read { number: 0 },
+        Call::LaneText { room: 0 },
+        Call::Load { text: Vec::new() },
+        Call::Cycle {
+            count: 9,
+            wishes: Box::new(wishes(&[])),
+        },
+    ]
+}
+
 /// A sound lane of 64 carriers at rest, numbered from 1 at the front.
 pub fn full_lane() -> Lane {
     let carriers: Vec<(u64, u64, u64)> = (1..=64).map(|n| (n, 1_000 - n, 0)).collect();
