@@ -2,20 +2,20 @@
 use mathlib.Core.Path.{_≡_, refl}
 use mathlib.Core.Bool.{false, cond}
 use mathlib.Core.List.{[]}
-use Prim.Native.Nat.{ℕ, _-_, _≤_, _<_}
+use Prim.Native.Nat.{ℕ, _≤_, _<_}
 use borrow.Author.Tests.{le-ltb, lt-leb, ltb-false, leb-false}
 use lib.Dec.{leb, ltb}
-use Rattle.headway.specs.Stopping.{safeBehind}
-use Rattle.headway.proofs.Laws.{safe-behind-tail}
 use Rattle.lane.specs.declared.Carrier.{Carrier}
 use Rattle.lane.specs.declared.Road.{Road}
-use Rattle.lane.specs.declared.Row.{Row}
 use Rattle.lane.specs.State.{State}
-use Rattle.lane.specs.Safety.{leader, guaranteedRate, safeWith, anyOf, firstPlace}
+use Rattle.lane.specs.Safety.{safeWith, anyOf, firstPlace}
 use Rattle.lane.specs.Rules.{badNumber, tooFast, tooLong, newcomerNo, broken}
 use Rattle.lane.specs.Calls.{walk, gapNo, placeNo, enterNo}
 use Rattle.lane.proofs.lists.Passed.{passed}
 use Rattle.lane.proofs.lists.Tests.{neither}
+
+pub number-within : (n : ℕ) → badNumber n ≡ false → (1 ≤ n) × (n ≤ 65535)
+number-within n e = let t = neither (ltb n 1) (ltb 65535 n) e in (ltb-false n 1 (t .0), ltb-false 65535 n (t .1))
 
 pub record Newcomer (road : Road) (c : Carrier) : Type 0 where
   pub number-least : 1 ≤ c .number
@@ -32,10 +32,10 @@ newcomer-is road c e =
     let position = passed (leb (road .end) (c .position)) 4 _ (number .1) in
     let speed = passed (tooFast road c) 5 _ (position .1) in
     let length = passed (tooLong c) 32 0 (speed .1) in
-    let within = neither (ltb (c .number) 1) (ltb 65535 (c .number)) (number .0) in
+    let within = number-within (c .number) (number .0) in
     record {
-      number-least = ltb-false (c .number) 1 (within .0);
-      number-most = ltb-false 65535 (c .number) (within .1);
+      number-least = within .0;
+      number-most = within .1;
       front-before-end = leb-false (road .end) (c .position) (position .0);
       slow = ltb-false (road .limit) (c .speed) (speed .0);
       short = ltb-false 65535 (c .length) (length .0);
@@ -64,10 +64,3 @@ length-after-speed road c p q h = rw (le-ltb (c .number) 1 p, le-ltb 65535 (c .n
 pub alone-enters : (s : State) (c : Carrier) → broken s ≡ false → s .count ≡ 0 → s .carriers ≡ [] → Newcomer (s .road) c → enterNo s c ≡ 0
 unfolding enterNo placeNo gapNo walk firstPlace anyOf safeWith
 alone-enters s c b e f h = rw (b, newcomer-passes (s .road) c h, e, f) refl
-
--- "Safe behind now uses the position of the carrier ahead less its length": behind a carrier is behind a point at its tail. That point is 0 where the
--- tail lies before the start, and nobody is behind it either way.
-pub safe-by-tail : (r : Row) (a c : Carrier)
-    → safeWith r (leader a) c ≡ safeBehind (guaranteedRate r c) (r .hardest) (c .position) (c .speed) (a .position - a .length) (a .speed)
-unfolding safeWith
-safe-by-tail r a c = safe-behind-tail (guaranteedRate r c) (r .hardest) (c .position) (a .length) (c .speed) (a .position) (a .speed)

@@ -2,8 +2,10 @@
 use mathlib.Core.Path.{_≡_, refl, sym, _∙_}
 use mathlib.Core.Bool.{false, cond}
 use borrow.Author.Needs.{needs}
-use borrow.Author.Tests.{lt-ltb, le-ltb, le-leb, lt-leb}
-use Rattle.lane.specs.Rules.{badNumber, tooFast, tooLong, newcomerNo}
+use borrow.Author.Tests.{lt-ltb, le-ltb, le-leb}
+use lib.Dec.{ltb}
+use Rattle.lane.specs.Rules.{badNumber, newcomerNo}
+use Rattle.lane.proofs.Newcomers.{number-within, newcomer-passes, length-after-speed}
 use Rattle.lane.proofs.rules.newcomer_refusal.Statement.{statement}
 use Rattle.lane.proofs.rules.newcomer_refusal.Tie as tie
 
@@ -23,9 +25,11 @@ returns-2 c = rw (good-number (c .before .before .before), le-leb _ _ (c .if2 .t
 
 -- past the position the speed decides, and then the length
 speed-decides : (c : tie.Else2) → let a = c .before .before .before .before .before .args in
-    newcomerNo (a .road) (a .c) ≡ cond (tooFast (a .road) (a .c)) 6 (cond (tooLong (a .c)) 33 0)
-unfolding newcomerNo
-speed-decides c = rw (good-number (c .before .before .before), lt-leb _ _ (c .if2 .left)) refl
+    newcomerNo (a .road) (a .c) ≡ cond (ltb (a .road .limit) (a .c .speed)) 6 (cond (ltb 65535 (a .c .length)) 33 0)
+speed-decides c =
+    let a = c .before .before .before .before .before .args in
+    let number = number-within (a .c .number) (good-number (c .before .before .before)) in
+    length-after-speed (a .road) (a .c) (number .0) (number .1) (c .if2 .left)
 
 returns-3 : tie.Need-returns-3
 returns-3 c = rw (speed-decides (c .before .before .before), lt-ltb _ _ (c .if3 .taken)) refl
@@ -34,7 +38,11 @@ returns-4 : tie.Need-returns-4
 returns-4 c = let slow = c .before .before in rw (speed-decides (slow .before .before .before), le-ltb _ _ (slow .if3 .left), lt-ltb _ _ (c .if4 .taken)) refl
 
 returns-5 : tie.Need-returns-5
-returns-5 c = let slow = c .before .before in rw (speed-decides (slow .before .before .before), le-ltb _ _ (slow .if3 .left), le-ltb _ _ (c .if4 .left)) refl
+returns-5 c =
+    let slow = c .before .before in
+    let before-end = slow .before .before .before in
+    let number = number-within _ (good-number (before-end .before .before .before)) in
+    sym (newcomer-passes _ _ (record { number-least = number .0; number-most = number .1; front-before-end = before-end .if2 .left; slow = slow .if3 .left; short = c .if4 .left }))
 
 pub newcomer-refusal-spec : {M : Type 1} → statement M
 newcomer-refusal-spec =
