@@ -193,10 +193,14 @@ fn number_left_behind(random: &mut Random, lane: &Lane) -> u64 {
     }
 }
 
+/// Mostly an unused number. On a lane with one place left, half are known: only
+/// there does an entry's lookup go through all 63.
 fn number(random: &mut Random, lane: &Lane) -> u64 {
+    let one_left = lane.present().len() == PLACES - 1;
     match random.below(30) {
         0 => 0,
         1..=3 => known_number(random, lane),
+        4..=14 if one_left => known_number(random, lane),
         _ => unused_number(random, lane),
     }
 }
