@@ -30,9 +30,9 @@
 extern "C" {
 #endif
 
-/* The number of this interface, another one whenever a struct, a number, a constant or a function changes. A host asks the library for its
- * own before the first call: where they differ, header and library do not belong together. */
-#define RONDAVITSE_VERSION 3
+/* The number of this interface, another one whenever a struct, a number, a constant or a function changes, a function in its form or in what it
+ * answers. A host asks the library for its own before the first call: where they differ, header and library do not belong together. */
+#define RONDAVITSE_VERSION 4
 uint32_t rondavitse_version(void);
 
 #define RONDAVITSE_LAST_SURFACE 7
@@ -213,7 +213,8 @@ rondavitse_entered rondavitse_enter(rondavitse_lane *lane, rondavitse_carrier ca
 /* The carrier named comes out; gives `no`. Checks: 21, 4, 24. */
 uint32_t rondavitse_leave(rondavitse_lane *lane, uint64_t number);
 
-/* Sorts of wishes, and what their value is. */
+/* Sorts of wishes, and what their value is. A float becomes units: 16 times an acceleration, or 128 times a target speed, to the nearest whole
+ * number, a value exactly halfway to the even one; from that of a target speed the present speed is then subtracted. */
 enum {
     RONDAVITSE_UNITS = 0,        /* 1/16 m/s², 16 bits signed: rondavitse_units(units) */
     RONDAVITSE_ACCELERATION = 1, /* m/s², -16 to 16: rondavitse_float(acceleration) */

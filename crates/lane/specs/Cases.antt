@@ -1,4 +1,4 @@
--- Document 01, "Edges (M: proved)": all its marked cases in one table, which `proofs/Cases.antt` computes as a whole.
+-- Document 01, "Edges (M: proved)": all its marked cases in one table, accelerations as document 02, T-04, has them, which `proofs/Cases.antt` computes as a whole.
 use mathlib.Core.Bool.{Bool, true, false}
 use mathlib.Core.List.{List, [], _∷_, map}
 use Prim.Native.Nat.{ℕ}

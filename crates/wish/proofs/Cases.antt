@@ -20,7 +20,7 @@ module _ (v : ℕ) where
   unfolding accelerationCases unitsOf ofBits
   acceleration-cases = refl
 
-  pub acceleration-BD000000 : unitsOfBits 0xBD00_0000 ≡ Units (negℤ (pos 1))
+  pub acceleration-BD000000 : unitsOfBits 0xBD00_0000 ≡ Units (pos 0)
   unfolding accelerationCases
   acceleration-BD000000 = cc acceleration-cases
 
@@ -28,7 +28,7 @@ module _ (v : ℕ) where
   unfolding accelerationCases
   acceleration-3D000000 = cc acceleration-cases
 
-  pub acceleration-80000001 : unitsOfBits 0x8000_0001 ≡ Units (negℤ (pos 1))
+  pub acceleration-80000001 : unitsOfBits 0x8000_0001 ≡ Units (pos 0)
   unfolding accelerationCases
   acceleration-80000001 = cc acceleration-cases
 
@@ -43,3 +43,11 @@ module _ (v : ℕ) where
   pub acceleration-7FC00000-outside : unitsOfBits 0x7FC0_0000 ≡ Outside
   unfolding accelerationCases
   acceleration-7FC00000-outside = cc acceleration-cases
+
+  pub acceleration-3DC00000 : unitsOfBits 0x3DC0_0000 ≡ Units (pos 2)
+  unfolding accelerationCases
+  acceleration-3DC00000 = cc acceleration-cases
+
+  pub acceleration-BDC00000 : unitsOfBits 0xBDC0_0000 ≡ Units (negℤ (pos 2))
+  unfolding accelerationCases
+  acceleration-BDC00000 = cc acceleration-cases

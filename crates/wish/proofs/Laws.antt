@@ -20,7 +20,7 @@ use Rattle.wish.proofs.Values.{within-size, within-size-from-0}
 use Rattle.wish.proofs.Trimming.{smaller-pos, smaller-left, smaller-right, not-above-right, below-both, neg-le-pos, not-below-low, inside-kept, above-high, below-low, ends-crossed, pos-minus, between, sum-between}
 use Rattle.wish.proofs.Quotients.{doubleOf-exact}
 
--- ---- "whole units" and "hold (0 units)"; of the two sorts of float `Floor` has the laws
+-- ---- "whole units" and "hold (0 units)"; which units the two sorts of float have is in `Nearest`
 
 pub whole-units : (u : ℤ) (v : ℕ) → unitsOf (Wish.the-variants.Units u) v ≡ Units u
 unfolding unitsOf

@@ -1,6 +1,5 @@
--- `Laws`, `Floor` and `Cases` are for the crates above; the rest is how they and the functions are proved.
+-- `Laws`, `Nearest` and `Cases` are for the crates above; the rest is how they and the functions are proved.
 mod Rounding
-pub mod Floor
 mod Ints
 mod Values
 mod Products
@@ -9,4 +8,5 @@ mod Patterns
 mod Quotients
 mod Trimming
 pub mod Laws
+pub mod Nearest
 pub mod Cases

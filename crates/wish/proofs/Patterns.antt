@@ -1,7 +1,7 @@
 -- The least normal number asks for what each subnormal one of its sign does, in both sorts of wish. Assumes nothing.
 use mathlib.Core.Path.{_≡_, refl, sym, ap, ap₂, _∙_, subst}
 use mathlib.Core.Bool.{Bool, true, false, not, _&&_, _||_, cond}
-use Prim.Native.Nat.{ℕ, _-_, _*_, _/_, _%_, _^_, _≤_, _<_}
+use Prim.Native.Nat.{ℕ, _*_, _/_, _%_, _^_, _≤_, _<_}
 use native.Mathlib.Nat.{lt-of-lt-of-le, mul-pos}
 use native.Mathlib.Omega.{arith}
 use borrow.Author.Tests.{le-leb, ne-eqb}
@@ -10,11 +10,11 @@ use lib.IntN.{ℤ, pos, negsuc, _-ℤ_}
 use lib.Ieee.{Float, nan, inf, fin, binary32, ofBits, ofFields, up, down}
 use lib.Ieee.Fits.{down-pos}
 use lib.Ieee.Exact.{HasValue}
-use Rattle.wish.specs.Rounding.{signed, roundedSize, roundedTimes}
+use Rattle.wish.specs.Rounding.{signed, roundedTimes}
 use Rattle.wish.specs.Units.{liesWithin, unitsWithin, accelerationUnits, targetUnits, unitsOf}
 use Rattle.wish.specs.declared.Converted.the-variants.{Units, Outside}
 use Rattle.wish.specs.declared.Wish.the-variants.{Acceleration, TargetSpeed}
-use Rattle.wish.proofs.Rounding.{rounded-tiny}
+use Rattle.wish.proofs.Rounding.{rounded-none}
 use Rattle.wish.proofs.Values.{at-most-of-value, in-range, within-size-from-0, rounded-value}
 use Rattle.wish.proofs.Bits.{ofBits-is, low-field}
 
@@ -47,23 +47,21 @@ module _ {x : Float} {s : Bool} {a c : ℕ} (t : Tiny x s a c) where
   positive : 0 < c
   positive = let f = t .few in omega arith
 
-  rounds : (k : ℕ) → 0 < a * k → a * k * 4 < c → roundedTimes k x ≡ signed s (roundedSize s 1 4)
-  rounds k some few = rounded-value k x s a c positive (t .value) ∙ ap (signed s) (rounded-tiny s (a * k) c some few)
+  rounds : (k : ℕ) → a * k * 2 < c → roundedTimes k x ≡ signed s 0
+  rounds k few = rounded-value k x s a c positive (t .value) ∙ ap (signed s) (rounded-none (a * k) c few)
 
-  tiny-acceleration : accelerationUnits x ≡ Units (signed s (roundedSize s 1 4))
+  tiny-acceleration : accelerationUnits x ≡ Units (signed s 0)
   unfolding accelerationUnits unitsWithin
   tiny-acceleration =
       let f = t .few in
-      let g = t .some in
       let inside = in-range 4 x (at-most-of-value 16 x s a c positive (t .value) (omega arith)) in
-      rw inside (ap Units (rounds 16 (omega arith) (omega arith)))
+      rw inside (ap Units (rounds 16 (omega arith)))
 
-  tiny-target : (v : ℕ) → targetUnits x v ≡ cond (not s) (Units (signed s (roundedSize s 1 4) -ℤ pos v)) Outside
+  tiny-target : (v : ℕ) → targetUnits x v ≡ cond (not s) (Units (signed s 0 -ℤ pos v)) Outside
   unfolding targetUnits unitsWithin
   tiny-target v =
       let f = t .few in
-      let g = t .some in
-      ap₂ (λ (u : Bool) (z : ℤ). cond u (Units (z -ℤ pos v)) Outside) (not-from-0 x s a c t) (rounds 128 (omega arith) (omega arith))
+      ap₂ (λ (u : Bool) (z : ℤ). cond u (Units (z -ℤ pos v)) Outside) (not-from-0 x s a c t) (rounds 128 (omega arith))
 
 -- a pattern of a subnormal number: the exponent's field is 0, and not all of the rest
 module _ (bits : ℕ) (some : 0 < bits % 0x8000_0000) (small : bits % 0x8000_0000 < 0x80_0000) where

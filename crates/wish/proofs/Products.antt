@@ -106,7 +106,7 @@ module _ (n j : ℕ) (room : n * 2 ^ j ≤ 8192) where
   rounded-alike (inf s) t h = absurd h
   rounded-alike (fin s m e) t h =
       rounded-value 1 (times (fin s m e)) s (m * up e * 2 ^ j) (down e) (down-pos e) (exact s m e t h)
-      ∙ ap (λ (x : ℕ). signed s (roundedSize s x (down e))) (mul-one (m * up e * 2 ^ j))
+      ∙ ap (λ (x : ℕ). signed s (roundedSize x (down e))) (mul-one (m * up e * 2 ^ j))
 
 -- ---- what a conversion needs
 -- the test that picks the answer

@@ -1,85 +1,79 @@
--- Rounding sees only the value of its fraction (`rounded-same`), and stays within a whole bound on it (`rounded-le`): all that other proofs use. The laws below 1 are for `rounded_size`. Assumes nothing.
+-- Rounding to the nearest, by where the rest lies (`rounded-by`): that it sees only the value of its fraction (`rounded-same`) and stays within a whole bound on it (`rounded-le`). The laws of shifts are for `rounded_size`. Assumes nothing.
 use mathlib.Core.Path.{_≡_, sym, ap, _∙_, subst}
-use Prim.Native.Nat.{ℕ, zero, suc, _+_, _-_, _*_, _/_, _^_, _≤_, _<_, zero-le, min}
-use native.Mathlib.Nat.{le-trans, le-of-eq, le-antisymm, le-of-suc-le-suc, mul-right-comm, mul-le-mul-right, le-of-mul-le-mul-right, div-lt-iff-lt-mul, div-add-mod', mod-lt, suc-mul, div-eq-of-lt, lt-of-lt-of-le}
-use native.Mathlib.Decide.{decLt}
+use mathlib.Core.Logic.{by-cases}
+use Prim.Native.Nat.{ℕ, suc, _+_, _-_, _*_, _/_, _%_, _^_, _≤_, _<_, min, compare, Ordering, Ordering·lt, Ordering·eq, Ordering·gt}
+use native.Mathlib.Nat.{lt-of-not-le, lt-of-lt-of-le, mul-le-mul-right, le-of-mul-le-mul-right, suc-mul, div-add-mod', mod-le, mod-lt, div-eq-of-lt, div-eq-of-lt-le}
+use native.Mathlib.Numerals.{add-one}
+use native.Mathlib.Decide.{decLt, ℕ-discrete}
 use native.Mathlib.Omega.{arith}
-use mathlib.Core.Bool.{Bool, true, false}
-use lib.Ieee.Nearest.{div-same}
+use mathlib.Core.Bool.{not}
+use lib.Dec.{T, isLe, isEq, eqb, leb→le, nleb→lt, eqb→eq, eqb-refl}
+use lib.Ieee.Nearest.{closest-same}
 use lib.Pow.{pow-mono}
-use Rattle.wish.specs.Rounding.{roundedSize}
+use Rattle.wish.specs.Rounding.{nearestTo, roundedSize}
 
--- ---- n / d rounded up
-abbrev pub ceil : ℕ → ℕ → ℕ
-ceil n d = (n + (d - 1)) / d
+-- ---- what holds of the whole part where the rest is below half or the half of an even one, and of the next where it is above half or the half of an odd one, holds of the rounded number
+module _ (P : ℕ → Type 0) (n d : ℕ)
+    (stay : n % d * 2 ≤ d → (n % d * 2 ≡ d → n / d % 2 ≡ 0) → P (n / d))
+    (next : d ≤ n % d * 2 → (n % d * 2 ≡ d → n / d % 2 ≡ 1) → P (suc (n / d))) where
+  halfway : n % d * 2 ≡ d → P (n / d + n / d % 2)
+  halfway e = by-cases (ℕ-discrete (n / d % 2) 0)
+      (λ (z : n / d % 2 ≡ 0). subst P (kept (n / d) z) (stay (omega arith) (λ _. z)))
+      (λ (o : n / d % 2 ≡ 0 → ⊥). subst P (moved (n / d) o) (next (omega arith) (λ _. omega arith)))
+    where
+      kept : (w : ℕ) → w % 2 ≡ 0 → w ≡ w + w % 2
+      kept w z = omega arith
 
-pub ceil-ge : (n d : ℕ) → 0 < d → n ≤ ceil n d * d
-ceil-ge n d D =
-    let e = div-add-mod' (n + (d - 1)) d in
-    let l = mod-lt (n + (d - 1)) D in
-    omega arith
+      moved : (w : ℕ) → (w % 2 ≡ 0 → ⊥) → suc w ≡ w + w % 2
+      moved w o = omega arith
 
-pub ceil-le : (n d k : ℕ) → 0 < d → n ≤ k * d → ceil n d ≤ k
-ceil-le n d k D h = le-of-suc-le-suc (div-lt-iff-lt-mul D .1 (subst (λ (x : ℕ). n + (d - 1) < x) (sym (suc-mul k d)) (below (k * d) h)))
-  where
-    below : (x : ℕ) → n ≤ x → n + (d - 1) < x + d
-    below x g = omega arith
+  pub rounded-by : P (roundedSize n d)
+  unfolding roundedSize
+  rounded-by =
+      go (compare (n % d * 2) d) (leb→le (n % d * 2) d) (nleb→lt (n % d * 2) d) (eqb→eq (n % d * 2) d)
+      (λ (e : n % d * 2 ≡ d). subst (λ (x : ℕ). T (eqb (n % d * 2) x)) e (eqb-refl (n % d * 2)))
+    where
+      go : (o : Ordering) → (T (isLe o) → n % d * 2 ≤ d) → (T (not (isLe o)) → d < n % d * 2) → (T (isEq o) → n % d * 2 ≡ d) → (n % d * 2 ≡ d → T (isEq o)) → P (nearestTo (n / d) o)
+      go Ordering·lt le gt eq ne = stay (le tt) (λ (e : n % d * 2 ≡ d). absurd (ne e))
+      go Ordering·eq le gt eq ne = halfway (eq tt)
+      go Ordering·gt le gt eq ne = let h = gt tt in next (omega arith) (λ (e : n % d * 2 ≡ d). omega arith)
 
-ceil-mono : (a c b d : ℕ) → 0 < c → 0 < d → a * d ≤ b * c → ceil a c ≤ ceil b d
-ceil-mono a c b d C D h =
-    ceil-le a c (ceil b d) C
-    (le-of-mul-le-mul-right
-    (le-trans h (le-trans (mul-le-mul-right c (ceil-ge b d D)) (le-of-eq (mul-right-comm (ceil b d) d c)))) D)
+-- n / d is rounded to k at most, where it is k at most, and to 0 below a half
+pub rounded-le : (n d : ℕ) → 0 < d → (k : ℕ) → n ≤ k * d → roundedSize n d ≤ k
+rounded-le n d D k h =
+    let e = div-add-mod' n d in
+    rounded-by (λ (q : ℕ). q ≤ k) n d
+    (λ (_ : n % d * 2 ≤ d) _. le-of-mul-le-mul-right (omega arith) D)
+    (λ (g : d ≤ n % d * 2) _. lt-of-not-le (λ (l : k ≤ n / d). let f = mul-le-mul-right d l in omega arith))
+
+pub rounded-none : (n d : ℕ) → n * 2 < d → roundedSize n d ≡ 0
+rounded-none n d h =
+    let m = mod-le n d in
+    rounded-by (λ (q : ℕ). q ≡ 0) n d (λ _ _. div-eq-of-lt (omega arith)) (λ (g : d ≤ n % d * 2) _. omega arith)
+
+-- less than half of the divisor added before the cut, and exactly half where the whole part is odd
+pub rounded-cut : (n h : ℕ) → 0 < h → (n + (h - 1) + n / (h * 2) % 2) / (h * 2) ≡ roundedSize n (h * 2)
+rounded-cut n h H =
+    let d = h * 2 in
+    let e = div-add-mod' n d in
+    let l = mod-lt n {m = d} (omega arith) in
+    let m = suc-mul (n / d) d in
+    rounded-by (λ (q : ℕ). (n + (h - 1) + n / d % 2) / d ≡ q) n d
+    (λ r even. div-eq-of-lt-le d (omega arith) (rw (add-one (n / d)) (by-cases (ℕ-discrete (n % d * 2) d) (λ t. let p = even t in omega arith) (λ t. omega arith))))
+    (λ r odd. div-eq-of-lt-le d (by-cases (ℕ-discrete (n % d * 2) d) (λ t. let p = odd t in omega arith) (λ t. omega arith)) (rw (add-one (suc (n / d)), suc-mul (suc (n / d)) d) (omega arith)))
 
 -- ---- equal fractions are rounded alike
-pub rounded-same : (s : Bool) (a c b d : ℕ) → 0 < c → 0 < d → a * d ≡ b * c → roundedSize s a c ≡ roundedSize s b d
+pub rounded-same : (a c b d : ℕ) → 0 < c → 0 < d → a * d ≡ b * c → roundedSize a c ≡ roundedSize b d
 unfolding roundedSize
-rounded-same false a c b d C D e = div-same a c b d C D e
-rounded-same true a c b d C D e = le-antisymm (ceil-mono a c b d C D (le-of-eq e)) (ceil-mono b d a c D C (le-of-eq (sym e)))
+rounded-same a c b d C D e = closest-same a c b d C D e
 
--- ---- n / d is rounded to k at most, where it is k at most
-pub rounded-le : (s : Bool) (n d k : ℕ) → 0 < d → n ≤ k * d → roundedSize s n d ≤ k
-unfolding roundedSize
-rounded-le false n d k D h = le-of-suc-le-suc (div-lt-iff-lt-mul D .1 (subst (λ (x : ℕ). n < x) (sym (suc-mul k d)) (below (k * d) h)))
+-- ---- no power past 2 ^ 25 counts for a number below 2 ^ 24
+pub rounded-enough : (n k : ℕ) → n < 16777216 → roundedSize n (2 ^ min k 25) ≡ roundedSize n (2 ^ k)
+rounded-enough n k h = go (decLt k 25)
   where
-    below : (x : ℕ) → n ≤ x → n < x + d
-    below x g = omega arith
-rounded-le true n d k D h = ceil-le n d k D h
+    small : (j : ℕ) → 25 ≤ j → roundedSize n (2 ^ j) ≡ 0
+    small j g = rounded-none n (2 ^ j) (lt-of-lt-of-le (omega arith) (pow-mono {i = 25} g))
 
--- ---- a fraction below 1
-rounded-small : (n d : ℕ) → n < d → roundedSize false n d ≡ 0
-unfolding roundedSize
-rounded-small n d h = div-eq-of-lt h
-
-rounded-none : (s : Bool) (d : ℕ) → 0 < d → roundedSize s 0 d ≡ 0
-rounded-none s d D = le-antisymm (rounded-le s 0 d 0 D zero-le) zero-le
-
-rounded-one : (n d : ℕ) → 0 < n → n < d → roundedSize true n d ≡ 1
-unfolding roundedSize
-rounded-one n d N h =
-    le-antisymm (ceil-le n d 1 (omega arith) (omega arith)) (reach (ceil n d) (ceil-ge n d (omega arith)))
-  where
-    reach : (k : ℕ) → n ≤ k * d → 1 ≤ k
-    reach zero g = omega arith
-    reach (suc k) g = omega arith
-
--- over one denominator as over another
-below-one : (s : Bool) (n d e : ℕ) → n < d → n < e → roundedSize s n d ≡ roundedSize s n e
-below-one false n d e h k = rounded-small n d h ∙ sym (rounded-small n e k)
-below-one true zero d e h k = rounded-none true d h ∙ sym (rounded-none true e k)
-below-one true (suc n) d e h k = rounded-one (suc n) d (omega arith) h ∙ sym (rounded-one (suc n) e (omega arith) k)
-
--- so that one near 0 is rounded as any other of its sign is, as 1/4 is
-pub rounded-tiny : (s : Bool) (n d : ℕ) → 0 < n → n * 4 < d → roundedSize s n d ≡ roundedSize s 1 4
-rounded-tiny false n d N h = rounded-small n d (omega arith) ∙ sym (rounded-small 1 4 (omega arith))
-rounded-tiny true n d N h = rounded-one n d N (omega arith) ∙ sym (rounded-one 1 4 (omega arith) (omega arith))
-
--- and that no power past 2 ^ 24 counts for a number below it
-pub rounded-enough : (s : Bool) (n k : ℕ) → n < 16777216 → roundedSize s n (2 ^ min k 24) ≡ roundedSize s n (2 ^ k)
-rounded-enough s n k h = go (decLt k 24)
-  where
-    go : Dec (k < 24) → roundedSize s n (2 ^ min k 24) ≡ roundedSize s n (2 ^ k)
-    go (yes l) = let e : min k 24 ≡ k = omega arith in ap (λ (x : ℕ). roundedSize s n (2 ^ x)) e
-    go (no l) =
-        let e : min k 24 ≡ 24 = omega arith in
-        ap (λ (x : ℕ). roundedSize s n (2 ^ x)) e ∙ below-one s n (2 ^ 24) (2 ^ k) h (lt-of-lt-of-le h (pow-mono {i = 24} (omega arith)))
+    go : Dec (k < 25) → roundedSize n (2 ^ min k 25) ≡ roundedSize n (2 ^ k)
+    go (yes l) = let e : min k 25 ≡ k = omega arith in ap (λ (x : ℕ). roundedSize n (2 ^ x)) e
+    go (no l) = small (min k 25) (omega arith) ∙ sym (small k (omega arith))

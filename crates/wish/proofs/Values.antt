@@ -167,13 +167,13 @@ within-size-from-0 k true m e =
 
 -- ---- rounding a value
 -- k times a float that equals ±a / c, rounded
-pub rounded-value : (k : ℕ) (x : Float) (s : Bool) (a c : ℕ) → 0 < c → HasValue x s a c → roundedTimes k x ≡ signed s (roundedSize s (a * k) c)
+pub rounded-value : (k : ℕ) (x : Float) (s : Bool) (a c : ℕ) → 0 < c → HasValue x s a c → roundedTimes k x ≡ signed s (roundedSize (a * k) c)
 unfolding roundedTimes
 rounded-value k nan s a c C v = absurd v
 rounded-value k (inf t) s a c C v = absurd v
 rounded-value k (fin t m e) s a c C v =
-    ap (λ (u : Bool). signed u (roundedSize u (m * up e * k) (down e))) (v .0)
-    ∙ ap (signed s) (rounded-same s (m * up e * k) (down e) (a * k) c (down-pos e) C
+    ap (λ (u : Bool). signed u (roundedSize (m * up e * k) (down e))) (v .0)
+    ∙ ap (signed s) (rounded-same (m * up e * k) (down e) (a * k) c (down-pos e) C
     (mul-right-comm (m * up e) k c ∙ ap (λ (x : ℕ). x * k) (v .1) ∙ mul-right-comm a (down e) k))
 
 mag-signed : (s : Bool) (n b : ℕ) → n ≤ b → mag (signed s n) ≤ b
@@ -187,5 +187,5 @@ unfolding roundedTimes
 rounded-at-most b k nan h = absurd h
 rounded-at-most b k (inf s) h = absurd h
 rounded-at-most b k (fin s m e) h =
-    mag-signed s (roundedSize s (m * up e * k) (down e)) (b * k)
-    (rounded-le s (m * up e * k) (down e) (b * k) (down-pos e) (le-trans (mul-le-mul-right k h) (le-of-eq (mul-right-comm b (down e) k))))
+    mag-signed s (roundedSize (m * up e * k) (down e)) (b * k)
+    (rounded-le (m * up e * k) (down e) (down-pos e) (b * k) (le-trans (mul-le-mul-right k h) (le-of-eq (mul-right-comm b (down e) k))))

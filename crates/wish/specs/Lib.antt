@@ -1,4 +1,4 @@
--- What document 01 says of wishes and readings, as definitions.
+-- What documents 01 and 02 say of wishes and readings, as definitions.
 pub mod Rounding
 pub mod Units
 pub mod Trimming

@@ -26,7 +26,7 @@ unfoldable pub accelerationUnits : Float → Converted
 unfolding unitsWithin roundedTimes
 accelerationUnits x = unitsWithin (fin true 1 (pos 4)) (fin false 1 (pos 4)) x (roundedTimes 16 x)
 
--- "a speed from 0 to 64", which is 1 * 2 ^ 6; "or of 128 times it less the present speed". The speed is whole, so it goes off after the rounding.
+-- "a speed from 0 to 64", which is 1 * 2 ^ 6; "or of 128 times it less the present speed", and by document 02, T-04: "Rounding is of the exact product, then the present speed is subtracted."
 unfoldable pub targetUnits : Float → ℕ → Converted
 unfolding unitsWithin roundedTimes
 targetUnits x v = unitsWithin (fin false 0 (pos 0)) (fin false 1 (pos 6)) x (roundedTimes 128 x -ℤ pos v)

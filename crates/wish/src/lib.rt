@@ -104,25 +104,23 @@ fn fraction_of(y: f32) -> Fraction
     }
 }
 
-// Digits below 2 ^ 24 are less than 1 after a shift by 24, and no larger one leaves more.
+// Digits below 2 ^ 24 are less than 1/2 after a shift by 25, and no larger one leaves more.
 fn enough(shift: u32) -> u32
-    ensures { λ r. ⌜ r ≡ min shift 24 ⌝ }
+    ensures { λ r. ⌜ r ≡ min shift 25 ⌝ }
 {
-    if shift < 24 { shift } else { 24 }
+    if shift < 25 { shift } else { 25 }
 }
 
-// The size of the whole number to which that fraction is rounded down. The rule of rounding stands here alone.
-fn rounded_size(negative: bool, digits: u32, shift: u32) -> u32
+// The size of the whole number to which that fraction is rounded, the same for both signs. The rule of rounding stands here alone: less than half a
+// unit is added before the cut, and where the whole part is odd exactly half, so that a half goes up to the even one.
+fn rounded_size(digits: u32, shift: u32) -> u32
     requires { ⌜ digits < 16777216 ⌝ }
-    ensures { λ r. ⌜ r ≡ roundedSize negative digits (2 ^ shift) ⌝ }
+    ensures { λ r. ⌜ r ≡ roundedSize digits (2 ^ shift) ⌝ }
 {
-    let by = enough(shift);
-    if negative {
-        let unit: u32 = 1 << by;
-        (digits + (unit - 1)) >> by
-    } else {
-        digits >> by
-    }
+    // 2 ^ 25 parts make a unit, so that 0xFF_FFFF is one part less than half.
+    let parts: u64 = (digits as u64) << (25 - enough(shift));
+    let odd: u64 = (parts >> 25) % 2;
+    ((parts + 0xFF_FFFF + odd) >> 25) as u32
 }
 
 // y, from −8192 to 8192, rounded to a whole number.
@@ -131,12 +129,8 @@ fn rounded(y: f32) -> i64
     ensures { λ r. ⌜ r ≡ roundedTimes 1 y ⌝ }
 {
     let f = fraction_of(y);
-    // Each sign by itself: joined, they take more instructions.
-    if f.negative {
-        0 - (rounded_size(true, f.digits, f.shift) as i64)
-    } else {
-        rounded_size(false, f.digits, f.shift) as i64
-    }
+    let size: i64 = rounded_size(f.digits, f.shift) as i64;
+    if f.negative { 0 - size } else { size }
 }
 
 // Whether x lies from low to high, ends included. Not-a-number lies nowhere.

@@ -6,7 +6,7 @@ use Prim.Native.Nat.{ℕ, _*_, _^_, _<_}
 use native.Mathlib.Nat.{mul-one}
 use native.Mathlib.Omega.{arith}
 use lib.Dec.{lit<}
-use lib.IntN.{pos, negℤ, +ℤ-idl}
+use lib.IntN.{pos, +ℤ-idl}
 use lib.Pow.{pow-pos}
 use Rattle.wish.specs.Rounding.{signed, roundedSize, roundedTimes}
 use Rattle.wish.proofs.Values.{rounded-value}
@@ -17,53 +17,33 @@ use Rattle.wish.proofs.rounded.Tie as tie
 fraction-of-requires : tie.Need-fraction-of-requires
 fraction-of-requires c κs = search needs
 
--- a number n is y rounded, with the sign of y, if it is the size to which the fraction is rounded
-whole : (f : tie.After-fraction-of) (s : Bool) (n : ℕ) → f .fraction-of .result .negative ≡ s
-    → n ≡ roundedSize s (f .fraction-of .result .digits) (2 ^ f .fraction-of .result .shift) → signed s n ≡ roundedTimes 1 (f .before .args .y)
-whole f s n e q =
-    let r = f .fraction-of .result in
-    ap (signed s) (q ∙ ap (λ (x : ℕ). roundedSize s x (2 ^ r .shift)) (sym (mul-one (r .digits))))
-    ∙ ap (λ (t : Bool). signed t (roundedSize t (r .digits * 1) (2 ^ r .shift))) (sym e)
-    ∙ sym (rounded-value 1 (f .before .args .y) (r .negative) (r .digits) (2 ^ r .shift) (pow-pos (r .shift)) (f .fraction-of .ensures .0))
-
 rounded-size-requires : tie.Need-rounded-size-requires
 rounded-size-requires c κs = search needs
 
-cast-result : tie.Need-cast-result
-cast-result c = search needs
+cast-size : tie.Need-cast-size
+cast-size c = search needs
+
+-- the size to which the fraction is rounded is, with the sign of y, y rounded
+whole : (c : tie.After-rounded-size) (s : Bool) → c .before .fraction-of .result .negative ≡ s → signed s (c .rounded-size .result) ≡ roundedTimes 1 (c .before .before .args .y)
+whole c s e =
+    let r = c .before .fraction-of .result in
+    ap (signed s) (c .rounded-size .ensures ∙ ap (λ (x : ℕ). roundedSize x (2 ^ r .shift)) (sym (mul-one (r .digits))))
+    ∙ ap (λ (t : Bool). signed t (roundedSize (r .digits * 1) (2 ^ r .shift))) (sym e)
+    ∙ sym (rounded-value 1 (c .before .before .args .y) (r .negative) (r .digits) (2 ^ r .shift) (pow-pos (r .shift)) (c .before .fraction-of .ensures .0))
+
+small : (c : tie.After-rounded-size) → c .rounded-size .result < 2 ^ 32
+small c = omega arith
 
 sub-result : tie.Need-sub-result
-sub-result c =
-    let n = c .rounded-size .result in
-    let h : n < 2 ^ 32 = omega arith in
-    minus-fits (pos 0) n refl (unsigned-read h) (lit< tt) h
-
-rounded-size-requires-2 : tie.Need-rounded-size-requires-2
-rounded-size-requires-2 c κs = search needs
-
-cast-result-2 : tie.Need-cast-result-2
-cast-result-2 c = search needs
+sub-result c = let h = small (c .before) in minus-fits (pos 0) _ refl (unsigned-read h) (lit< tt) h
 
 returns : tie.Need-returns
-returns c =
-    let n = c .rounded-size .result in
-    let h : n < 2 ^ 32 = omega arith in
-    minus-is (pos 0) n refl (unsigned-read h) (lit< tt) h ∙ +ℤ-idl (negℤ (pos n)) ∙ whole (c .before .before) true n (c .before .if1 .taken) (c .rounded-size .ensures)
+returns c = let h = small (c .before) in minus-is (pos 0) _ refl (unsigned-read h) (lit< tt) h ∙ +ℤ-idl _ ∙ whole (c .before) true (c .if1 .taken)
 
 returns-2 : tie.Need-returns-2
-returns-2 c =
-    let n = c .rounded-size2 .result in
-    unsigned-read {n = n} (omega arith) ∙ whole (c .before .before) false n (c .before .if1 .left) (c .rounded-size2 .ensures)
+returns-2 c = unsigned-read (small (c .before)) ∙ whole (c .before) false (c .if1 .left)
 
 pub rounded-spec : {M : Type 1} → statement M
 rounded-spec =
     tie.close
-    (tie.spec
-    fraction-of-requires
-    rounded-size-requires
-    cast-result
-    sub-result
-    rounded-size-requires-2
-    cast-result-2
-    returns
-    returns-2)
+    (tie.spec fraction-of-requires rounded-size-requires cast-size sub-result returns returns-2)
