@@ -1,10 +1,11 @@
 //! Wishes, and how they become whole units of acceleration.
 //!
 //! Floats are handled by their bits alone: no float arithmetic takes place,
-//! so no rounding can.
+//! so nothing is rounded but the exact product, and that once.
 
 use crate::carrier::Carrier;
 use crate::surface::Row;
+use std::cmp::Ordering;
 
 /// What a carrier would like to do in the next cycle.
 #[derive(Clone, Copy, Debug, Default, PartialEq, Eq)]
@@ -61,9 +62,10 @@ impl Wish {
     pub fn units(self, speed: u64) -> Option<i64> {
         self.in_range().then(|| match self {
             Wish::Units(units) => units.into(),
-            Wish::Acceleration(bits) => floor_scaled(bits, 4).into(),
-            // The speed is whole, so it may be taken off after rounding down.
-            Wish::TargetSpeed(bits) => i64::from(floor_scaled(bits, 7)) - speed as i64,
+            Wish::Acceleration(bits) => nearest_scaled(bits, 4),
+            // Rounding comes first, so an odd speed doesn't change which of two
+            // units is the even one.
+            Wish::TargetSpeed(bits) => nearest_scaled(bits, 7) - speed as i64,
             Wish::Hold => 0,
         })
     }
@@ -77,9 +79,10 @@ impl Wish {
     }
 }
 
-/// Rounds 2^`power` times a float in range down to a whole number.
-fn floor_scaled(bits: u32, power: u32) -> i32 {
-    let fraction = (bits & 0x007F_FFFF) as i32;
+/// 2^`power` times a float in range, to the nearest whole number and from
+/// halfway to the even one.
+fn nearest_scaled(bits: u32, power: u32) -> i64 {
+    let fraction = bits & 0x007F_FFFF;
     let exponent = bits >> 23 & 0xFF;
     // Subnormals have no hidden bit and the exponent of the least normals.
     let significand = if exponent == 0 {
@@ -87,12 +90,29 @@ fn floor_scaled(bits: u32, power: u32) -> i32 {
     } else {
         fraction | 0x0080_0000
     };
-    let signed = if bits & SIGN == 0 {
-        significand
+    // The float's magnitude is the significand over 2^(150 - exponent), and in
+    // either range that exponent is below 134. The significand is below 2^24, so
+    // every divisor from 2^25 on gives 0.
+    let digits = (150 - power - exponent.max(1)).min(25);
+    let magnitude = nearest_quotient(significand, digits).into();
+    if bits & SIGN == 0 {
+        magnitude
     } else {
-        -significand
-    };
-    // The float is `signed` over 2^(150 - exponent), and in either range that
-    // exponent is below 134. A right shift of a signed number rounds down.
-    signed >> (150 - power - exponent.max(1)).min(31)
+        -magnitude
+    }
+}
+
+/// `dividend` over 2^`digits` to the nearer of the two whole numbers about it, and
+/// from halfway to the even one.
+fn nearest_quotient(dividend: u32, digits: u32) -> u32 {
+    let below = dividend >> digits;
+    let above = below + 1;
+    let to_below = dividend - (below << digits);
+    let to_above = (above << digits) - dividend;
+    match to_below.cmp(&to_above) {
+        Ordering::Less => below,
+        Ordering::Greater => above,
+        Ordering::Equal if below % 2 == 0 => below,
+        Ordering::Equal => above,
+    }
 }

@@ -1,19 +1,27 @@
-//! Wishes at the ends of trimming, of standing and of the float ranges.
+//! Wishes at the ends of trimming, of standing and of the float ranges, and floats
+//! at the halves between units.
 
 use super::edges::{greatest_standing, just_gone, row_of, trimming_ends};
 use super::Random;
 use crate::carrier::Carrier;
 use crate::lane::{Lane, PLACES};
 use crate::wish::Wish;
+use std::convert::identity;
 
-/// Floats at zero, among the subnormals, about whole units, about the ends of
-/// both ranges, and those that are no finite number.
-pub const FLOAT_EDGES: [u32; 40] = [
+/// Floats at zero, among the subnormals, about whole units and the halves between
+/// them, about the ends of both ranges and the last halves before these, and those
+/// that are no finite number.
+pub const FLOAT_EDGES: [u32; 73] = [
     0x00000000, 0x80000000, 0x00000001, 0x80000001, 0x007FFFFF, 0x807FFFFF, 0x00800000, 0x80800000,
-    0x3BFFFFFF, 0x3C000000, 0x3C000001, 0x3CFFFFFF, 0x3D000000, 0x3D7FFFFF, 0x3D800000, 0x3D800001,
-    0xBD000000, 0xBD7FFFFF, 0xBD800000, 0xBD800001, 0x417FFFFF, 0x41800000, 0x41800001, 0xC17FFFFF,
-    0xC1800000, 0xC1800001, 0x427FFFFF, 0x42800000, 0x42800001, 0xC2800000, 0x7F7FFFFF, 0xFF7FFFFF,
-    0x7F800000, 0xFF800000, 0x7F800001, 0xFF800001, 0x7FC00000, 0xFFC00000, 0x7FFFFFFF, 0xFFFFFFFF,
+    0x3B7FFFFF, 0x3B800000, 0x3B800001, 0x3BFFFFFF, 0x3C000000, 0x3C000001, 0x3C3FFFFF, 0x3C400000,
+    0x3C400001, 0x3C9FFFFF, 0x3CA00000, 0x3CA00001, 0x3CFFFFFF, 0x3D000000, 0x3D000001, 0x3D7FFFFF,
+    0x3D800000, 0x3D800001, 0x3DBFFFFF, 0x3DC00000, 0x3DC00001, 0x3E1FFFFF, 0x3E200000, 0x3E200001,
+    0xBCFFFFFF, 0xBD000000, 0xBD000001, 0xBD7FFFFF, 0xBD800000, 0xBD800001, 0xBDBFFFFF, 0xBDC00000,
+    0xBDC00001, 0xBE1FFFFF, 0xBE200000, 0xBE200001, 0x417F7FFF, 0x417F8000, 0x417F8001, 0x417FFFFF,
+    0x41800000, 0x41800001, 0xC17F7FFF, 0xC17F8000, 0xC17F8001, 0xC17FFFFF, 0xC1800000, 0xC1800001,
+    0x427FFBFF, 0x427FFC00, 0x427FFC01, 0x427FFFFF, 0x42800000, 0x42800001, 0xC2800000, 0x7F7FFFFF,
+    0xFF7FFFFF, 0x7F800000, 0xFF800000, 0x7F800001, 0xFF800001, 0x7FC00000, 0xFFC00000, 0x7FFFFFFF,
+    0xFFFFFFFF,
 ];
 
 /// Wishes that a whole cycle may be made of, besides mixed ones.
@@ -129,18 +137,22 @@ fn mixed(random: &mut Random, lane: &Lane, carrier: Carrier, standing: i64) -> W
     }
 }
 
-/// `units` as a wish of any sort; a float may be one pattern up or down, which
-/// takes it to the next unit or leaves it, as its rounding down has it.
+/// `units` as a wish of any sort; a float may be half a unit off, where the even
+/// unit is taken, and then one float up or down, where the nearer unit is.
 fn expressed(random: &mut Random, units: i64, speed: u64) -> Wish {
-    let nudge = random.pick(&[0, 0, 1, u32::MAX]);
-    let nudged = |value: f32| value.to_bits().wrapping_add(nudge);
+    let half = random.pick(&[-1, 0, 1]);
+    let nudge = random.pick(&[identity, identity, f32::next_up, f32::next_down]);
     // Both quotients are exact: small whole numbers over powers of two.
     match random.below(3) {
         0 => Wish::Units(units.clamp(i16::MIN.into(), i16::MAX.into()) as i16),
-        1 => Wish::Acceleration(nudged(units.clamp(-256, 256) as f32 / 16.0)),
+        1 => {
+            let halves = (2 * units + half).clamp(-512, 512);
+            Wish::Acceleration(nudge(halves as f32 / 32.0).to_bits())
+        }
         _ => {
-            let target = speed.saturating_add_signed(units).min(8_192);
-            Wish::TargetSpeed(nudged(target as f32 / 128.0))
+            let target = speed.saturating_add_signed(units).min(8_192) as i64;
+            let halves = (2 * target + half).clamp(0, 16_384);
+            Wish::TargetSpeed(nudge(halves as f32 / 256.0).to_bits())
         }
     }
 }
