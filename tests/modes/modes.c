@@ -27,11 +27,12 @@ static const unsigned modes[] = {
     ROUND_DOWN,                ROUND_UP,                   ROUND_TO_ZERO,                   FAST | ROUND_DOWN,
 };
 
-/* Sizes about which the answers turn: 0, subnormal numbers, half a unit, the ends of both ranges, infinity, patterns of not-a-number. */
+/* Sizes about which the answers turn: 0, subnormal numbers, halves of a unit, the ends of both ranges, infinity, patterns of not-a-number. */
 static const uint32_t edges[] = {
-    0x00000000, 0x00000001, 0x00400000, 0x007FFFFF, 0x00800000, 0x00800001, 0x01000000, 0x3BFFFFFF, 0x3C000000, 0x3C000001,
-    0x3CFFFFFF, 0x3D000000, 0x3D000001, 0x3D7FFFFF, 0x3D800000, 0x3D800001, 0x3F800000, 0x417FFFFF, 0x41800000, 0x41800001,
-    0x427FFFFF, 0x42800000, 0x42800001, 0x7F7FFFFF, 0x7F800000, 0x7F800001, 0x7FBFFFFF, 0x7FC00000, 0x7FFFFFFF,
+    0x00000000, 0x00000001, 0x00400000, 0x007FFFFF, 0x00800000, 0x00800001, 0x01000000, 0x3B7FFFFF, 0x3B800000, 0x3B800001,
+    0x3BFFFFFF, 0x3C000000, 0x3C000001, 0x3C3FFFFF, 0x3C400000, 0x3C400001, 0x3CFFFFFF, 0x3D000000, 0x3D000001, 0x3D7FFFFF,
+    0x3D800000, 0x3D800001, 0x3DBFFFFF, 0x3DC00000, 0x3DC00001, 0x3F800000, 0x417FFFFF, 0x41800000, 0x41800001, 0x427FFFFF,
+    0x42800000, 0x42800001, 0x7F7FFFFF, 0x7F800000, 0x7F800001, 0x7FBFFFFF, 0x7FC00000, 0x7FFFFFFF,
 };
 static const size_t EDGES = sizeof edges / sizeof edges[0];
 
@@ -106,7 +107,7 @@ static void compare_readings(uint64_t position, uint64_t speed) {
     }
 }
 
-/* What document 01 says of a float, in any mode: the speed after a cycle that begins at SPEED, or the refusal. */
+/* What the documents say of a float, in any mode: the speed after a cycle that begins at SPEED, or the refusal. */
 static void expect_case(uint8_t sort, uint32_t bits, uint64_t no, uint64_t speed) {
     answers a;
     ask(&a, sort, bits);
@@ -116,13 +117,20 @@ static void expect_case(uint8_t sort, uint32_t bits, uint64_t no, uint64_t speed
 
 int main(void) {
     uint32_t random = 1;
-    expect_case(RONDAVITSE_ACCELERATION, 0x80000001, 0, SPEED - 1);
+    expect_case(RONDAVITSE_ACCELERATION, 0x80000001, 0, SPEED);
     expect_case(RONDAVITSE_ACCELERATION, 0x00000001, 0, SPEED);
-    expect_case(RONDAVITSE_ACCELERATION, 0xBD000000, 0, SPEED - 1);
+    expect_case(RONDAVITSE_ACCELERATION, 0xBD000000, 0, SPEED);
     expect_case(RONDAVITSE_ACCELERATION, 0x3D000000, 0, SPEED);
+    expect_case(RONDAVITSE_ACCELERATION, 0xBD000001, 0, SPEED - 1);
+    expect_case(RONDAVITSE_ACCELERATION, 0x3D000001, 0, SPEED + 1);
+    expect_case(RONDAVITSE_ACCELERATION, 0xBDC00000, 0, SPEED - 2);
+    expect_case(RONDAVITSE_ACCELERATION, 0x3DC00000, 0, SPEED + 2);
     expect_case(RONDAVITSE_TARGET_SPEED, 0x80000001, 7, SPEED);
     expect_case(RONDAVITSE_TARGET_SPEED, 0x80000000, 0, 0);
     expect_case(RONDAVITSE_TARGET_SPEED, 0x00000001, 0, 0);
+    expect_case(RONDAVITSE_TARGET_SPEED, 0x3B800000, 0, 0);
+    expect_case(RONDAVITSE_TARGET_SPEED, 0x3B800001, 0, 1);
+    expect_case(RONDAVITSE_TARGET_SPEED, 0x3C400000, 0, 2);
     for (size_t i = 0; i < EDGES; i++) {
         compare_both(edges[i]);
         compare_both(edges[i] | 0x80000000);
