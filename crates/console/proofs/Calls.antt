@@ -18,10 +18,10 @@ use Rattle.history.specs.Claims.{kindOf}
 use Rattle.history.specs.History.{Event, Wished, Chain, chain-next}
 use Rattle.console.specs.declared.Stepped.{Stepped}
 use Rattle.console.specs.declared.blocks.Kind.{Kind}
-use Rattle.console.specs.declared.blocks.Kind.the-variants.{Start, Enter, Leave, Cycle, Show, Unknown}
+use Rattle.console.specs.declared.blocks.Kind.the-variants.{Start, Enter, Leave, Cycle, Show, Surface, Unknown}
 use Rattle.console.specs.Limits.{answerSpace}
 use Rattle.console.specs.Blocks as Blocks
-use Rattle.console.specs.Blocks.{Parsed, parsed, malformed, past, afterLine, field, isWish, wishOf, wantIn, want, wants, sixtyFour, startLines, enterLines, leaveLines, cycleLines, showCall, linesOf, blockIn}
+use Rattle.console.specs.Blocks.{Parsed, parsed, malformed, past, afterLine, field, isWish, wishOf, wantIn, want, wants, sixtyFour, startLines, enterLines, leaveLines, surfaceLines, cycleLines, showCall, linesOf, blockIn}
 use Rattle.console.specs.Output.{keepsLane}
 use Rattle.console.specs.Program.{halted, withoutRoom, ran, stepOf, stepInto, StepGives}
 use Rattle.console.specs.History.{blockAt, blockRun, eventsOf}
@@ -64,13 +64,14 @@ sixty-four ws =
     omega (arith, length-append ws (replicate (mostCarriers - length ws) Hold), length-replicate (mostCarriers - length ws) Hold)
 
 lines-wished : (k : Kind) (t : List ℕ) → WishedIn (linesOf k t)
-unfolding startLines enterLines leaveLines cycleLines showCall
+unfolding startLines enterLines leaveLines surfaceLines cycleLines showCall
 lines-wished Start t =
     field-wished _ _ t _ λ surface t. field-wished _ _ t _ λ end t. field-wished _ _ t _ λ limit t. field-wished _ _ t _ λ first t. wished tt
 lines-wished Enter t = field-wished _ _ t _ λ car t. field-wished _ _ t _ λ at t. field-wished _ _ t _ λ speed t. field-wished _ _ t _ λ length t. wished tt
 lines-wished Leave t = field-wished _ _ t _ λ car t. wished tt
 lines-wished Cycle t = field-wished _ _ t _ λ cars t. wants-wished cars t _ λ ws t. wished λ h. omega (arith, sixty-four ws)
 lines-wished Show t = wished tt
+lines-wished Surface t = field-wished _ _ t _ λ surface t. wished tt
 lines-wished Unknown t = no-block
 
 block-wished : (t : List ℕ) → WishedIn (blockIn t)

@@ -133,5 +133,6 @@ no-block t {word} w h =
       no-word word (ascii "leave") h (omega arith),
       no-word word (ascii "cycle") h (omega arith),
       no-word word (ascii "show") h (omega arith),
+      no-word word (ascii "surface") h (omega arith),
     )
     refl

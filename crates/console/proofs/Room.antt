@@ -12,7 +12,7 @@ use Rattle.text.specs.Numbers.{decimal, hexadecimal}
 use Rattle.text.specs.Lines.{line}
 use Rattle.text.proofs.Laws.{length-line, length-hexadecimal}
 use Rattle.lane.specs.Layout.{Words, stateOf}
-use Rattle.lane.specs.Call.{Call, start-call, load-call, enter-call, leave-call, cycle-call, read-call, text-call, Answer, callNo, callAnswer}
+use Rattle.lane.specs.Call.{Call, start-call, load-call, enter-call, leave-call, surface-call, cycle-call, read-call, text-call, Answer, callNo, callAnswer}
 use Rattle.lane.proofs.Laws.{text-answers, text-short}
 use Rattle.lane.proofs.CallLaws.{answer-number, two-digits}
 use Rattle.lane.proofs.Answerable.{place-small, gone-small}
@@ -35,6 +35,7 @@ accepted-fits (enter-call c) l z =
       short-line (ascii "place=") place (omega arith) (omega (arith, place-small l c z)),
     )
 accepted-fits (leave-call number) l z = omega arith
+accepted-fits (surface-call code) l z = omega arith
 accepted-fits (cycle-call count ws) l z =
     let a = callAnswer (cycle-call count ws) (stateOf l) in
     let over = line (ascii "over=") (hexadecimal 16 (a .word)) in

@@ -16,9 +16,9 @@ use Rattle.wish.specs.declared.Wish.{Wish}
 use Rattle.wish.specs.declared.Wish.the-variants.{Units, Acceleration, TargetSpeed, Hold}
 use Rattle.lane.specs.Limits.{mostCarriers, longestText}
 use Rattle.lane.specs.Listing.{carKey, carMost, atKey, atMost, speedKey, speedMost, lengthKey, lengthMost}
-use Rattle.lane.specs.Call.{Call, start-call, enter-call, leave-call, cycle-call, text-call}
+use Rattle.lane.specs.Call.{Call, start-call, enter-call, leave-call, surface-call, cycle-call, text-call}
 use Rattle.console.specs.declared.blocks.Kind.{Kind}
-use Rattle.console.specs.declared.blocks.Kind.the-variants.{Start, Enter, Leave, Cycle, Show, Unknown}
+use Rattle.console.specs.declared.blocks.Kind.the-variants.{Start, Enter, Leave, Cycle, Show, Surface, Unknown}
 use Rattle.console.specs.declared.reading.Asked.{Asked}
 use Rattle.console.specs.declared.reading.Want.{Want}
 use Rattle.console.specs.declared.reading.Want.the-variants.{Wanted, Nothing}
@@ -67,6 +67,10 @@ enterLines t =
 -- "`call=leave`, `car`"
 unfoldable pub leaveLines : List ℕ → Parsed
 leaveLines t = field carKey carMost t (λ car t. parsed (leave-call car) 0)
+
+-- document 02, T-05: "by `call=surface` and `surface`", the line of a start
+unfoldable pub surfaceLines : List ℕ → Parsed
+surfaceLines t = field (ascii "surface=") bits32 t (λ surface t. parsed (surface-call surface) 0)
 
 -- ---- "lines `want=`"
 
@@ -144,7 +148,8 @@ kindOf word =
     (cond (isWord (ascii "enter") word) Enter
     (cond (isWord (ascii "leave") word) Leave
     (cond (isWord (ascii "cycle") word) Cycle
-    (cond (isWord (ascii "show") word) Show Unknown))))
+    (cond (isWord (ascii "show") word) Show
+    (cond (isWord (ascii "surface") word) Surface Unknown)))))
 
 -- the lines of each kind after it
 abbrev pub linesOf : Kind → List ℕ → Parsed
@@ -153,6 +158,7 @@ linesOf Enter t = enterLines t
 linesOf Leave t = leaveLines t
 linesOf Cycle t = cycleLines t
 linesOf Show t = parsed showCall 0
+linesOf Surface t = surfaceLines t
 linesOf Unknown t = malformed
 
 -- the block that a text begins with; the word is empty where there is no `call=` line

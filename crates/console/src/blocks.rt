@@ -7,6 +7,7 @@ use crate::runs::run_enter;
 use crate::runs::run_leave;
 use crate::runs::run_show;
 use crate::runs::run_start;
+use crate::runs::run_surface;
 use lane::Carrier;
 use lane::Lane;
 use lane::Road;
@@ -17,7 +18,7 @@ ghost use Prim.Native.Nat.{_≤_};
 ghost use lib.ListN.{length, drop};
 ghost use Rattle.text.specs.Fields.{isWord};
 ghost use Rattle.console.specs.Limits.{answerSpace};
-ghost use Rattle.console.specs.Blocks.{afterLine, startLines, enterLines, leaveLines, cycleLines, kindOf, blockIn, Begun};
+ghost use Rattle.console.specs.Blocks.{afterLine, startLines, enterLines, leaveLines, surfaceLines, cycleLines, kindOf, blockIn, Begun};
 ghost use Rattle.console.specs.Program.{RunGives};
 
 const BITS16: u64 = 0xFFFF;
@@ -78,6 +79,17 @@ fn leave_block(l: &mut Lane, input: &[u8], at: usize, first: usize, out: &mut [u
     run_leave(l, car.value, car.next, out)
 }
 
+fn surface_block(l: &mut Lane, input: &[u8], at: usize, first: usize, out: &mut [u8]) -> Stepped
+    requires { ⌜ Begun (now input) at first (now out) ⌝ }
+    ensures { λ r. ⌜ RunGives (now (l .entry)) (afterLine (drop at (now (input .entry))) surfaceLines) at (now (out .entry)) r (now (l .exit)) (now (out .exit)) ⌝ }
+{
+    let surface = text::read_field(input, first, b"surface=", BITS32);
+    if !surface.ok {
+        return refused(at, 8, true, out);
+    }
+    run_surface(l, surface.value, surface.next, out)
+}
+
 fn cycle_block(l: &mut Lane, input: &[u8], at: usize, first: usize, out: &mut [u8]) -> Stepped
     requires { ⌜ Begun (now input) at first (now out) ⌝ }
     ensures { λ r. ⌜ RunGives (now (l .entry)) (afterLine (drop at (now (input .entry))) cycleLines) at (now (out .entry)) r (now (l .exit)) (now (out .exit)) ⌝ }
@@ -110,6 +122,7 @@ pub(crate) enum Kind {
     Leave,
     Cycle,
     Show,
+    Surface,
     Unknown,
 }
 
@@ -125,7 +138,8 @@ fn kind_if(word: &[u8], known: &[u8], kind: Kind, other: Kind) -> Kind
 fn kind_of(word: &[u8]) -> Kind
     ensures { λ r. ⌜ r ≡ kindOf (now (word .entry)) ⌝ }
 {
-    let show = kind_if(word, b"show", Kind::Show, Kind::Unknown);
+    let surface = kind_if(word, b"surface", Kind::Surface, Kind::Unknown);
+    let show = kind_if(word, b"show", Kind::Show, surface);
     let cycle = kind_if(word, b"cycle", Kind::Cycle, show);
     let leave = kind_if(word, b"leave", Kind::Leave, cycle);
     let enter = kind_if(word, b"enter", Kind::Enter, leave);
@@ -148,6 +162,7 @@ pub(crate) fn block(l: &mut Lane, input: &[u8], at: usize, out: &mut [u8]) -> St
         Kind::Leave => leave_block(l, input, at, first, out),
         Kind::Cycle => cycle_block(l, input, at, first, out),
         Kind::Show => run_show(l, first, out),
+        Kind::Surface => surface_block(l, input, at, first, out),
         Kind::Unknown => refused(at, 8, true, out),
     }
 }

@@ -10,7 +10,7 @@ ghost use Prim.Native.Nat.{_≤_};
 ghost use lib.ListN.{length};
 ghost use Rattle.text.specs.Lines.{written, placeAfter};
 ghost use Rattle.lane.specs.Calls.{ifAccepted};
-ghost use Rattle.lane.specs.Call.{start-call, enter-call, leave-call, cycle-call};
+ghost use Rattle.lane.specs.Call.{start-call, enter-call, leave-call, surface-call, cycle-call};
 ghost use Rattle.console.specs.Limits.{answerSpace};
 ghost use Rattle.console.specs.Blocks.{parsed, showCall};
 ghost use Rattle.console.specs.Output.{refusal};
@@ -93,6 +93,14 @@ pub(crate) fn run_leave(l: &mut Lane, number: u64, next: usize, out: &mut [u8]) 
 {
     let no = lane::leave(l, number);
     answered(next, no, b"ok=leave\n", out)
+}
+
+pub(crate) fn run_surface(l: &mut Lane, code: u64, next: usize, out: &mut [u8]) -> Stepped
+    requires { ⌜ answerSpace ≤ length (now out) ⌝ }
+    ensures { λ r. ⌜ RunGives (now (l .entry)) (parsed (surface-call code) 0) next (now (out .entry)) r (now (l .exit)) (now (out .exit)) ⌝ }
+{
+    let no = lane::surface(l, code);
+    answered(next, no, b"ok=surface\n", out)
 }
 
 pub(crate) fn run_cycle(

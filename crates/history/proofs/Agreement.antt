@@ -9,11 +9,11 @@ use lib.Dec.{eqb}
 use lib.ListN.{length}
 use Rattle.lane.specs.State.{State}
 use Rattle.lane.specs.Layout.{Words, stateOf}
-use Rattle.lane.specs.Call.{Call, start-call, load-call, enter-call, leave-call, cycle-call, read-call, text-call, callNo, callAnswer, callState, Kept}
-use Rattle.lane.proofs.CallLaws.{refused-changes-nothing, answer-number, Outcome, kept as leaves-kept, never-started, accepted-leaves, kept-started, kept-in-order, start-accepted, load-accepted, enter-accepted, leave-accepted, read-accepted, text-accepted}
+use Rattle.lane.specs.Call.{Call, start-call, load-call, enter-call, leave-call, surface-call, cycle-call, read-call, text-call, callNo, callAnswer, callState, Kept}
+use Rattle.lane.proofs.CallLaws.{refused-changes-nothing, answer-number, Outcome, kept as leaves-kept, never-started, accepted-leaves, kept-started, kept-in-order, start-accepted, load-accepted, enter-accepted, leave-accepted, surface-accepted, read-accepted, text-accepted}
 use Rattle.lane.proofs.CycleLaws.{cycle-accepted, cycle-runs}
 use Rattle.history.specs.Book.{Book, begun, holding, taken, booked}
-use Rattle.history.specs.Claims.{InOrder, Kind, begins, loads, runs, other, kindOf, CycleClaims}
+use Rattle.history.specs.Claims.{InOrder, Kind, begins, loads, surfaces, runs, other, kindOf, CycleClaims}
 use Rattle.history.specs.History.{Wished}
 use Rattle.history.proofs.Books.{put-in, take-out}
 use Rattle.history.proofs.CycleRuns.{bookOf, run-carriers, run-never-touching, run-replaces-crossing}
@@ -63,6 +63,7 @@ accepted-books (load-call text) s counted w z = (ap bookOf (load-accepted s text
 accepted-books (enter-call c) s counted w z = (ap bookOf (enter-accepted s c z) ∙ ap (holding (bookOf s)) (sym (put-in c (s .carriers))), tt)
 accepted-books (leave-call number) s counted w z =
     (ap bookOf (leave-accepted s number z) ∙ ap (holding (bookOf s)) (sym (take-out number (s .carriers))), tt)
+accepted-books (surface-call code) s counted w z = (ap bookOf (surface-accepted s code z), tt)
 accepted-books (cycle-call count wishes) s counted w z =
     let x = cycle-call count wishes in
     let run = cycle-runs s counted count wishes w z in
@@ -77,6 +78,7 @@ accepted-books (text-call buffer) s counted w z = (ap bookOf (text-accepted s bu
 nothing-claimed : {x : Call} (k : Kind x) (word : ℕ) (b : Book) → CycleClaims k true word b
 nothing-claimed (begins road first) word b = tt
 nothing-claimed (loads text) word b = tt
+nothing-claimed (surfaces code) word b = tt
 nothing-claimed (runs count wishes) word b = tt
 nothing-claimed (other x) word b = tt
 

@@ -1,6 +1,6 @@
 -- NO LIST IS LEFT OUT: every list of calls, with any arguments and on every lane, has a history, in which each call is answered as the contract
 -- of its function says.
-use mathlib.Core.Path.{_≡_, refl, ap, subst}
+use mathlib.Core.Path.{_≡_, refl, sym, ap, _∙_, subst}
 use mathlib.Core.Bool.{true, false}
 use mathlib.Core.List.{List, [], _∷_}
 use Prim.Native.Nat.{ℕ}
@@ -16,17 +16,19 @@ use Rattle.lane.specs.declared.Listed.{Listed}
 use Rattle.lane.specs.declared.ReadOut.{ReadOut}
 use Rattle.lane.specs.declared.Road.{Road}
 use Rattle.lane.specs.State.{State}
-use Rattle.lane.specs.Layout.{Words, stateOf}
+use Rattle.lane.specs.Layout.{Words, stateOf, withCode}
 use Rattle.lane.specs.Calls.{namedCarrier}
-use Rattle.lane.specs.Call.{Call, start-call, load-call, enter-call, leave-call, cycle-call, read-call, text-call, Answer, meaning, callAnswer, Gives, bare, entered, cycled, readOut, listed}
+use Rattle.lane.specs.Call.{Call, start-call, load-call, enter-call, leave-call, surface-call, cycle-call, read-call, text-call, Answer, meaning, callAnswer, Gives, bare, entered, cycled, readOut, listed}
 use Rattle.lane.proofs.start.Reads as start-reads
 use Rattle.lane.proofs.load.Reads as load-reads
 use Rattle.lane.proofs.enter.Reads as enter-reads
 use Rattle.lane.proofs.leave.Reads as leave-reads
+use Rattle.lane.proofs.surface.Reads as surface-reads
 use Rattle.lane.proofs.cycle.Reads as cycle-reads
 use Rattle.lane.proofs.read.Reads as read-reads
 use Rattle.lane.proofs.lane_text.Reads as text-reads
-use Rattle.lane.proofs.Answerable.{gives-some, returned, read-exact}
+use Rattle.lane.proofs.CallLaws.{answer-number}
+use Rattle.lane.proofs.Answerable.{gives-some, surface-words, returned, read-exact}
 use Rattle.history.specs.Claims.{kindOf}
 use Rattle.history.specs.History.{Event, OfLane, OfBoth, Did, Ran, none-yet, then, Typed, AllTyped, HistoryOf}
 
@@ -69,6 +71,11 @@ Exact s number a =
     a .number ≡ 0
     → HasValue (a .reading .position) false (namedCarrier s number .position) 2048 × HasValue (a .reading .speed) false (namedCarrier s number .speed) 128
 
+-- the one word that an accepted change of surface puts
+pub surface-puts : (l : Words) (code : ℕ) {no : ℕ} → callAnswer (surface-call code) (stateOf l) ≡ bare no [] → no ≡ 0 → left (surface-call code) l ≡ withCode code l
+surface-puts l code e z =
+    surface-words l code (sym (answer-number (surface-call code) (stateOf l)) ∙ ap (λ (a : Answer). a .number) e ∙ z)
+
 did : (x : Call) (l : Words) → Typed (kindOf x) → Did x l (callAnswer x (stateOf l)) (left x l)
 did (start-call road first) l t = let x = start-call road first in let r = returned x (stateOf l) in lends (r .0, r .1, gives-as x l (r .1))
 did (load-call text) l t =
@@ -77,6 +84,10 @@ did (load-call text) l t =
     lends-both (r .0, r .1, gives-as x l (r .1))
 did (enter-call c) l t = let x = enter-call c in let r = returned x (stateOf l) in lends (r .0, r .1, gives-as x l (r .1))
 did (leave-call number) l t = let x = leave-call number in let r = returned x (stateOf l) in lends (r .0, r .1, gives-as x l (r .1))
+did (surface-call code) l t =
+    let x = surface-call code in
+    let r = returned x (stateOf l) in
+    lends (r .0, r .1, (gives-as x l (r .1), surface-puts l code (r .1)))
 did (cycle-call count wishes) l t =
     let x = cycle-call count wishes in let r = returned x (stateOf l) in (t, lends (r .0, r .1, gives-as x l (r .1)))
 did (read-call number) l t =
@@ -108,6 +119,7 @@ pub each-contract : (κ : Lfts 1) (κs : Lfts 2) (l : RefT Words) (m : Words) (r
     × (load-reads.Asked κs (l, (out, tt)) × ((no : ℕ) → load-reads.Learnt κs (l, (out, tt)) no (at-last l m, (out, tt)) → Did (load-call (now out)) (now l) (bare no []) m))
     × (enter-reads.Asked κ (l, (c, tt)) × ((r : Entered) → enter-reads.Learnt κ (l, (c, tt)) r (at-last l m, (c, tt)) → Did (enter-call c) (now l) (entered r) m))
     × (leave-reads.Asked κ (l, (n, tt)) × ((no : ℕ) → leave-reads.Learnt κ (l, (n, tt)) no (at-last l m, (n, tt)) → Did (leave-call n) (now l) (bare no []) m))
+    × (surface-reads.Asked κ (l, (n, tt)) × ((no : ℕ) → surface-reads.Learnt κ (l, (n, tt)) no (at-last l m, (n, tt)) → Did (surface-call n) (now l) (bare no []) m))
     × (cycle-reads.Asked κ (l, (n, (ws, tt))) × (length ws ≡ 64 → (r : Cycled) → cycle-reads.Learnt κ (l, (n, (ws, tt))) r (at-last l m, (n, (ws, tt))) → Did (cycle-call n ws) (now l) (cycled r) m))
     × (read-reads.Asked κ (l, (n, tt)) × ((r : ReadOut) → read-reads.Learnt κ (l, (n, tt)) r (l, (n, tt)) → Did (read-call n) (now l) (readOut r) (now l)))
     × (text-reads.Asked κs (l, (out, tt)) × ((r : Listed) (bytes : List ℕ) → text-reads.Learnt κs (l, (out, tt)) r (l, (at-last out bytes, tt)) → Did (text-call (now out)) (now l) (listed r bytes) (now l)))
@@ -116,6 +128,7 @@ each-contract κ κs l m road c n ws out = (
   (tt, λ no s. of-lane κ l (no, refl, s)),
   (tt, λ no s. of-both κs l out (no, refl, s)),
   (tt, λ r s. of-lane κ l (r, refl, s)),
+  (tt, λ no s. of-lane κ l (no, refl, s)),
   (tt, λ no s. of-lane κ l (no, refl, s)),
   (tt, λ e r s. (e, of-lane κ l (r, refl, s))),
   (tt, λ r s. (refl, of-lane κ l (r, refl, s))),

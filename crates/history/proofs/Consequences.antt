@@ -24,19 +24,14 @@ use Rattle.lane.specs.Calls.{none}
 use Rattle.lane.specs.Call.{Call, start-call, cycle-call, read-call, Answer, callNo, Kept}
 use Rattle.lane.proofs.CallLaws.{answer-number, kept-not-21}
 use Rattle.history.specs.Book.{Seen, Book, begun, trimmedIn, drivenIn, booked}
-use Rattle.history.specs.Claims.{Kind, begins, loads, runs, other, kindOf, carrierAt, placeAt, restsLevelOrCrossed, Claims}
-use Rattle.history.specs.History.{Event, callsIn, seen, Ran, Typed, AllTyped, startsLane, Chain, chain-end, chain-next, Throughout, NeverBroken}
+use Rattle.history.specs.Claims.{Kind, begins, loads, surfaces, runs, other, kindOf, carrierAt, placeAt, restsLevelOrCrossed, Claims}
+use Rattle.history.specs.History.{Event, callsIn, seen, bookOn, Ran, Typed, AllTyped, startsLane, Chain, chain-end, chain-next, Throughout, NeverBroken}
 use Rattle.history.proofs.Bits.{below-power}
 use Rattle.history.proofs.Books.{driven-at-least}
 use Rattle.history.proofs.Fronts.{front-below}
 use Rattle.history.proofs.Lasting.{goes-on}
 use Rattle.history.proofs.History.{ran-gives, history}
 use Rattle.history.proofs.Answered.{every-list}
-
--- the book after the first calls
-abbrev pub bookOn : Book → List Event → Book
-bookOn b [] = b
-bookOn b (e ∷ es) = bookOn (booked (seen e) b) es
 
 -- what is claimed throughout is claimed of every call of the list, at the lane and the book that the calls before it have left
 pub at-each-call : (b : Book) (before : List Event) (e : Event) (later : List Event) → Throughout b (before ++ (e ∷ later))
@@ -184,6 +179,7 @@ every-list-claimed l e xs sixty-four =
     typed : {x : Call} (k : Kind x) → ((count : ℕ) (ws : List Wish) → x ≡ cycle-call count ws → length ws ≡ 64) → Typed k
     typed (begins road first) h = tt
     typed (loads text) h = tt
+    typed (surfaces code) h = tt
     typed (runs count ws) h = h count ws refl
     typed (other x) h = tt
 

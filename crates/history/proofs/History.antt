@@ -5,10 +5,10 @@ use native.Mathlib.Omega.{arith}
 use mathlib.Core.Path.{_≡_, sym, ap, subst}
 use mathlib.Core.List.{List}
 use Rattle.lane.specs.Layout.{Words, stateOf}
-use Rattle.lane.specs.Call.{Call, start-call, load-call, enter-call, leave-call, cycle-call, read-call, text-call, Answer, Gives}
+use Rattle.lane.specs.Call.{Call, start-call, load-call, enter-call, leave-call, surface-call, cycle-call, read-call, text-call, Answer, Gives}
 use Rattle.history.specs.Book.{Book, begun, booked}
 use Rattle.history.specs.Claims.{kindOf, Claims}
-use Rattle.history.specs.History.{Event, seen, Did, Ran, none-yet, then, Wished, Chain, chain-end, chain-next, Throughout}
+use Rattle.history.specs.History.{Event, seen, bookOn, Did, Ran, none-yet, then, Wished, Chain, chain-end, chain-next, Throughout}
 use Rattle.history.proofs.Agreement.{Agree, in-order, empty-agrees, step}
 
 -- ---- a contract says what the call gives
@@ -28,6 +28,7 @@ gives (load-call text) l a m d =
     (subst (λ (t : List ℕ). Gives (load-call t) l a m) (d .lent) (given-of (d .before) (d .says .1) (d .says .2)), tt)
 gives (enter-call c) l a m d = (given-of (d .before) (d .says .1) (d .says .2), tt)
 gives (leave-call number) l a m d = (given-of (d .before) (d .says .1) (d .says .2), tt)
+gives (surface-call code) l a m d = (given-of (d .before) (d .says .1) (d .says .2 .0), tt)
 gives (cycle-call count wishes) l a m d = (given-of (d .1 .before) (d .1 .says .1) (d .1 .says .2), λ h. omega (arith, d .0))
 gives (read-call number) l a m d = (read-of (d .0) (d .1 .before) (d .1 .says .1) (d .1 .says .2 .0), tt)
 gives (text-call buffer) l a m d =
@@ -54,6 +55,11 @@ one-call e l b g w h =
         cycle-run = rw (g .answer) (s .claims);
       },
     )
+
+-- the lane and the book after a list
+pub agrees-after : {l d : Words} {es : List Event} (b : Book) → Agree (stateOf l) b → Chain l es d → Agree (stateOf d) (bookOn b es)
+agrees-after b h chain-end = h
+agrees-after {l} b h (chain-next {e = e} g w r) = agrees-after (booked (seen e) b) (one-call e l b g w h .0) r
 
 pub throughout : {l d : Words} {es : List Event} (b : Book) → Agree (stateOf l) b → Chain l es d → Throughout b es
 throughout b h chain-end = tt

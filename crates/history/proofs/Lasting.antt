@@ -6,7 +6,7 @@ use lib.Dec.{eqb}
 use Rattle.lane.specs.State.{State}
 use Rattle.lane.specs.Call.{Call, callNo, callState, Kept}
 use Rattle.lane.proofs.CallLaws.{refused-changes-nothing, Outcome, kept, never-started, accepted-leaves, kept-started, start-leaves}
-use Rattle.history.specs.Claims.{Kind, begins, loads, runs, other, kindOf}
+use Rattle.history.specs.Claims.{Kind, begins, loads, surfaces, runs, other, kindOf}
 use Rattle.history.specs.History.{isStart}
 
 -- a lane that breaks no rule was started
@@ -25,6 +25,7 @@ still x s h = by-test (eqb (callNo x s) 0) refl
 starts-kept : {x : Call} (k : Kind x) (s : State) → isStart k && eqb (callNo x s) 0 ≡ true → Kept (callState x s)
 starts-kept (begins road first) s q = start-leaves s road first (eqb-true _ 0 q)
 starts-kept (loads text) s q = absurd (true≢false (sym q))
+starts-kept (surfaces code) s q = absurd (true≢false (sym q))
 starts-kept (runs count wishes) s q = absurd (true≢false (sym q))
 starts-kept (other x) s q = absurd (true≢false (sym q))
 

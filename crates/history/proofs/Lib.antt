@@ -1,5 +1,6 @@
 -- `History` is the theorem over every list of calls, `Answered` that there is a history of each, `Consequences` what a reader may take from both,
--- `Rows` what becomes of loaded rows. Before them the road book against the lane's laws: one call of each kind, a cycle, lane and book in agreement.
+-- `Rows` what becomes of loaded rows, `Changes` of a change of surface. Before them the road book against the lane's laws: one call of each kind, a
+-- cycle, lane and book in agreement.
 mod Bits
 mod Fronts
 mod Books
@@ -10,4 +11,5 @@ pub mod History
 pub mod Answered
 pub mod Consequences
 pub mod Rows
+pub mod Changes
 pub mod Remaining

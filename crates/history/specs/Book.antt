@@ -17,7 +17,7 @@ use Rattle.lane.specs.Surface.{Tables, rowIn}
 use Rattle.lane.specs.Safety.{guaranteedRate}
 use Rattle.lane.specs.Layout.{Words, stateOf}
 use Rattle.lane.specs.Table.{tableIn, rowsLoaded}
-use Rattle.lane.specs.Call.{Call, start-call, load-call, enter-call, leave-call, cycle-call, read-call, text-call}
+use Rattle.lane.specs.Call.{Call, start-call, load-call, enter-call, leave-call, surface-call, cycle-call, read-call, text-call}
 
 -- "It is fed with each call with its arguments and, of the answers, only whether the call was refused and a cycle's word."
 pub record Seen : Type 0 where
@@ -45,6 +45,11 @@ holding b cs = record { road = b .road; tables = b .tables; carriers = cs }
 abbrev pub loading : Book → (text : List ℕ) → Book
 loading b text =
     record { road = b .road; tables = record { inForce = b .tables .inForce; next = rowsLoaded (tableIn text) }; carriers = b .carriers }
+
+-- T-05: "to change the surface code between cycles"; "Positions, speeds and the cycle number don't move."
+abbrev pub surfacing : Book → (code : ℕ) → Book
+surfacing b code =
+    record { road = record { surface = code; end = b .road .end; limit = b .road .limit }; tables = b .tables; carriers = b .carriers }
 
 -- "Enter: the carrier goes in as given, where the walk over the book ends."
 unfoldable pub putIn : Carrier → List Carrier → List Carrier
@@ -89,6 +94,7 @@ taken (start-call road first) word b = record { road = road; tables = record { i
 taken (load-call text) word b = loading b text
 taken (enter-call c) word b = holding b (putIn c (b .carriers))
 taken (leave-call number) word b = holding b (takeOut number (b .carriers))
+taken (surface-call code) word b = surfacing b code
 taken (cycle-call count wishes) word b =
     holding b (drivenOn (b .road .end) (b .carriers) (drivenIn b word (b .carriers) wishes))
 taken (read-call number) word b = b

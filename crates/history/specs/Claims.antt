@@ -1,5 +1,5 @@
 -- Demand 3, over the road book: what holds after each call of a history, and in each cycle run.
-use Prim.Native.Nat.{ℕ, _+_, _-_, _*_, _/_, _%_, _^_, _≤_, _<_}
+use Prim.Native.Nat.{ℕ, suc, _+_, _-_, _*_, _/_, _%_, _^_, _≤_, _<_}
 use mathlib.Core.Path.{_≡_}
 use mathlib.Core.Bool.{Bool, true, false, not, _&&_}
 use mathlib.Core.List.{List}
@@ -8,16 +8,17 @@ use lib.IntN.{ℤ, pos, _+ℤ_}
 use lib.ListN.{length, getD}
 use lib.Signed.{_<ℤ_}
 use Rattle.headway.specs.Motion.{positionAt}
+use Rattle.headway.specs.Stopping.{stoppingDistance}
 use Rattle.headway.specs.Wishes.{restsBehind}
 use Rattle.wish.specs.declared.Wish.{Wish}
 use Rattle.wish.specs.declared.Wish.the-variants.{Hold}
 use Rattle.lane.specs.declared.Carrier.{Carrier}
 use Rattle.lane.specs.declared.Road.{Road}
-use Rattle.lane.specs.Surface.{rowIn}
+use Rattle.lane.specs.Surface.{rowOf, rowIn}
 use Rattle.lane.specs.Layout.{Words, stateOf}
 use Rattle.lane.specs.Safety.{guaranteedRate}
 use Rattle.lane.specs.Calls.{none}
-use Rattle.lane.specs.Call.{Call, start-call, load-call, enter-call, leave-call, cycle-call, read-call, text-call}
+use Rattle.lane.specs.Call.{Call, start-call, load-call, enter-call, leave-call, surface-call, cycle-call, read-call, text-call}
 use Rattle.history.specs.Book.{Seen, Book, trimmedIn, drivenIn, booked}
 
 -- the carrier at a place: "Ahead means nearer the book's front; next ahead, the place just before."
@@ -61,10 +62,21 @@ isReplaced word i = eqb (word / 2 ^ i % 2) 1
 abbrev pub ReplacedWhenCrossing : Book → (word : ℕ) → List Wish → Type 0
 ReplacedWhenCrossing b word ws = (i : ℕ) → isReplaced word i ≡ restsLevelOrCrossed b ws i
 
--- what kind a call is of: a start, a load, a cycle, or another
+-- document 02, T-05, "safe under the new row": in the book the carrier behind place i is safe behind the one there by the row of a code among those
+-- in force
+abbrev pub SafeOn : Book → (code i : ℕ) → Type 0
+SafeOn b code i =
+    let r = rowOf (b .tables .inForce) code in
+    let a = carrierAt b i in
+    let c = carrierAt b (suc i) in
+    (c .position + a .length < a .position)
+    × (c .position + a .length + stoppingDistance (r .guaranteed) (c .speed) < a .position + stoppingDistance (r .hardest) (a .speed))
+
+-- what kind a call is of: a start, a load, a change of surface, a cycle, or another
 pub data Kind : Call → Type 0 where
   begins : (road : Road) → (first : ℕ) → Kind (start-call road first)
   loads : (text : List ℕ) → Kind (load-call text)
+  surfaces : (code : ℕ) → Kind (surface-call code)
   runs : (count : ℕ) → (wishes : List Wish) → Kind (cycle-call count wishes)
   other : (x : Call) → Kind x
 
@@ -73,6 +85,7 @@ kindOf (start-call road first) = begins road first
 kindOf (load-call text) = loads text
 kindOf (enter-call c) = other (enter-call c)
 kindOf (leave-call number) = other (leave-call number)
+kindOf (surface-call code) = surfaces code
 kindOf (cycle-call count ws) = runs count ws
 kindOf (read-call number) = other (read-call number)
 kindOf (text-call buffer) = other (text-call buffer)
@@ -81,6 +94,7 @@ kindOf (text-call buffer) = other (text-call buffer)
 abbrev pub CycleClaims : {x : Call} → Kind x → (refused : Bool) → (word : ℕ) → Book → Type 0
 CycleClaims (begins road first) refused word b = Unit {0}
 CycleClaims (loads text) refused word b = Unit {0}
+CycleClaims (surfaces code) refused word b = Unit {0}
 CycleClaims (runs count ws) true word b = Unit {0}
 CycleClaims (runs count ws) false word b = NeverTouching b word ws × ReplacedWhenCrossing b word ws
 CycleClaims (other x) refused word b = Unit {0}

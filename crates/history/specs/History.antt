@@ -1,5 +1,5 @@
 -- A history: calls with what they answered and the lane that each left, each on the lane that the one before left, and demand 3 along it.
-use Prim.Native.Nat.{ℕ, _≤_}
+use Prim.Native.Nat.{ℕ, suc, _≤_, _<_}
 use mathlib.Core.Path.{_≡_}
 use mathlib.Core.Bool.{Bool, true, false, not, _&&_, _||_}
 use mathlib.Core.List.{List, [], _∷_, _++_, map}
@@ -12,18 +12,20 @@ use Rattle.lane.specs.declared.Entered.{Entered}
 use Rattle.lane.specs.declared.Listed.{Listed}
 use Rattle.lane.specs.declared.ReadOut.{ReadOut}
 use Rattle.lane.specs.declared.Road.{Road}
+use Rattle.lane.specs.Surface.{rowOf, rowIn}
 use Rattle.lane.specs.Layout.{Words, stateOf}
 use Rattle.lane.specs.Table.{tableIn, rowsLoaded}
-use Rattle.lane.specs.Call.{Call, start-call, load-call, enter-call, leave-call, cycle-call, read-call, text-call, Answer, bare, entered, cycled, readOut, listed, Gives}
+use Rattle.lane.specs.Call.{Call, start-call, load-call, enter-call, leave-call, surface-call, cycle-call, read-call, text-call, Answer, bare, entered, cycled, readOut, listed, Gives}
 use Rattle.lane.proofs.start.Reads as start-reads
 use Rattle.lane.proofs.load.Reads as load-reads
 use Rattle.lane.proofs.enter.Reads as enter-reads
 use Rattle.lane.proofs.leave.Reads as leave-reads
+use Rattle.lane.proofs.surface.Reads as surface-reads
 use Rattle.lane.proofs.cycle.Reads as cycle-reads
 use Rattle.lane.proofs.read.Reads as read-reads
 use Rattle.lane.proofs.lane_text.Reads as text-reads
-use Rattle.history.specs.Book.{Seen, Book, booked}
-use Rattle.history.specs.Claims.{Kind, begins, loads, runs, other, kindOf, Claims}
+use Rattle.history.specs.Book.{Seen, Book, begun, booked}
+use Rattle.history.specs.Claims.{Kind, begins, loads, surfaces, runs, other, kindOf, SafeOn, Claims}
 
 -- a call, what it answered and the lane that it left
 pub record Event : Type 0 where
@@ -38,6 +40,11 @@ callsIn es = map (λ (e : Event). e .call) es
 -- what the book sees of it
 abbrev pub seen : Event → Seen
 seen e = record { call = e .call; refused = not (eqb (e .answer .number) 0); word = e .answer .word }
+
+-- the book after these calls
+abbrev pub bookOn : Book → List Event → Book
+bookOn b [] = b
+bookOn b (e ∷ es) = bookOn (booked (seen e) b) es
 
 -- ---- what a contract says of a call
 
@@ -67,6 +74,8 @@ Did (enter-call c) l a m =
     OfLane l λ κs lane. (r : Entered) × (a ≡ entered r) × enter-reads.Learnt κs (lane, (c, tt)) r (at-last lane m, (c, tt))
 Did (leave-call number) l a m =
     OfLane l λ κs lane. (no : ℕ) × (a ≡ bare no []) × leave-reads.Learnt κs (lane, (number, tt)) no (at-last lane m, (number, tt))
+Did (surface-call code) l a m =
+    OfLane l λ κs lane. (no : ℕ) × (a ≡ bare no []) × surface-reads.Learnt κs (lane, (code, tt)) no (at-last lane m, (code, tt))
 Did (cycle-call count wishes) l a m =
     (length wishes ≡ 64)
     × OfLane l (λ κs lane. (r : Cycled) × (a ≡ cycled r) × cycle-reads.Learnt κs (lane, (count, (wishes, tt))) r (at-last lane m, (count, (wishes, tt))))
@@ -85,6 +94,7 @@ pub data Ran : Words → List Event → Words → Type 0 where
 abbrev pub Typed : {x : Call} → Kind x → Type 0
 Typed (begins road first) = Unit {0}
 Typed (loads text) = Unit {0}
+Typed (surfaces code) = Unit {0}
 Typed (runs count wishes) = length wishes ≡ 64
 Typed (other x) = Unit {0}
 
@@ -105,6 +115,7 @@ pub record HistoryOf (l : Words) (xs : List Call) : Type 0 where
 abbrev pub Wished : {x : Call} → Kind x → Type 0
 Wished (begins road first) = Unit {0}
 Wished (loads text) = Unit {0}
+Wished (surfaces code) = Unit {0}
 Wished (runs count wishes) = count ≤ 64 → count ≤ length wishes
 Wished (other x) = Unit {0}
 
@@ -124,6 +135,7 @@ Throughout b (e ∷ es) = Claims (e .left) (seen e) b × Throughout (booked (see
 abbrev pub isStart : {x : Call} → Kind x → Bool
 isStart (begins road first) = true
 isStart (loads text) = false
+isStart (surfaces code) = false
 isStart (runs count wishes) = false
 isStart (other x) = false
 
@@ -131,8 +143,17 @@ isStart (other x) = false
 abbrev pub isLoad : {x : Call} → Kind x → Bool
 isLoad (begins road first) = false
 isLoad (loads text) = true
+isLoad (surfaces code) = false
 isLoad (runs count wishes) = false
 isLoad (other x) = false
+
+-- the call is a change of surface
+abbrev pub isSurface : {x : Call} → Kind x → Bool
+isSurface (begins road first) = false
+isSurface (loads text) = false
+isSurface (surfaces code) = true
+isSurface (runs count wishes) = false
+isSurface (other x) = false
 
 -- an accepted start
 abbrev pub startsLane : Event → Bool
@@ -141,6 +162,10 @@ startsLane e = isStart (kindOf (e .call)) && eqb (e .answer .number) 0
 -- an accepted load
 abbrev pub loadsRows : Event → Bool
 loadsRows e = isLoad (kindOf (e .call)) && eqb (e .answer .number) 0
+
+-- an accepted start or change of surface: one that puts a surface code
+abbrev pub putsSurface : Event → Bool
+putsSurface e = (isStart (kindOf (e .call)) || isSurface (kindOf (e .call))) && eqb (e .answer .number) 0
 
 -- none of these
 abbrev pub NoneOf : (Event → Bool) → List Event → Type 0
@@ -161,6 +186,32 @@ LoadedRowsServe es =
     → load .call ≡ load-call text → load .answer .number ≡ 0 → NoneOf loadsRows between
     → start .call ≡ start-call road first → start .answer .number ≡ 0 → NoneOf startsLane serving
     → stateOf (laneAfter (start .left) serving) .tables .inForce ≡ rowsLoaded (tableIn text)
+
+-- T-05: "The change is accepted if the whole lane is safe under the new row and refused otherwise.": on a lane that 21 passes a change to a code that
+-- there is gives 0 where the book's carriers are all safe, 34 where one is not; and 0 for the code that the book has already
+abbrev pub SurfaceExactly : Words → List Event → Type 0
+SurfaceExactly l es =
+    (before : List Event) (change : Event) (later : List Event) (code : ℕ)
+    → es ≡ before ++ (change ∷ later)
+    → change .call ≡ surface-call code → ¬ (change .answer .number ≡ 21) → code ≤ 7
+    → let b = bookOn (begun l) before in
+    (((i : ℕ) → suc i < length (b .carriers) → SafeOn b code i) → change .answer .number ≡ 0)
+    × ((i : ℕ) → suc i < length (b .carriers) → ¬ (SafeOn b code i) → change .answer .number ≡ 34)
+    × (code ≡ b .road .surface → change .answer .number ≡ 0)
+
+-- T-05, "to change the surface code between cycles": after an accepted change and a list in which no call puts another, the lane has its code, and
+-- the row in force is that of the code among the rows that were in force before it
+abbrev pub SurfaceServes : Words → List Event → Type 0
+SurfaceServes l es =
+    (before : List Event) (change : Event) (serving later : List Event) (code : ℕ)
+    → es ≡ before ++ (change ∷ (serving ++ later))
+    → change .call ≡ surface-call code → change .answer .number ≡ 0 → NoneOf putsSurface serving
+    → let s = stateOf (laneAfter (change .left) serving) in
+    (s .road .surface ≡ code) × (rowIn (s .tables) (s .road) ≡ rowOf (stateOf (laneAfter l before) .tables .inForce) code)
+
+-- both of a list
+abbrev pub SurfaceChanges : Words → List Event → Type 0
+SurfaceChanges l es = SurfaceExactly l es × SurfaceServes l es
 
 -- "21 never started, or the lane handed in breaks a rule of this paper": once a start was accepted, no call gives it
 abbrev pub NeverBroken : (started : Bool) → List Event → Type 0

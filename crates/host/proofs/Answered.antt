@@ -17,22 +17,23 @@ use Rattle.lane.specs.declared.ReadOut.{ReadOut}
 use Rattle.lane.specs.declared.Road.{Road}
 use Rattle.lane.specs.Layout.{Words, stateOf, emptyWords}
 use Rattle.lane.specs.Calls.{ifAccepted, readyNo}
-use Rattle.lane.specs.Call.{Call, start-call, load-call, enter-call, leave-call, cycle-call, read-call, text-call, Answer, bare, entered, cycled, readOut, listed, callAnswer}
+use Rattle.lane.specs.Call.{Call, start-call, load-call, enter-call, leave-call, surface-call, cycle-call, read-call, text-call, Answer, bare, entered, cycled, readOut, listed, callAnswer}
 use Rattle.lane.specs.Given.{wishesNo, wishesGiven, GivesWith}
 use Rattle.lane.proofs.Answerable.{gives-some, returned, read-exact}
 use Rattle.history.specs.Book.{begun}
-use Rattle.history.specs.History.{Event, callsIn, Throughout, NeverBroken}
-use Rattle.history.proofs.Answered.{of-lane, of-both, lent, left, gives-as, reads-as, lends, lends-both, Exact}
+use Rattle.history.specs.History.{Event, callsIn, Throughout, SurfaceChanges, NeverBroken}
+use Rattle.history.proofs.Answered.{of-lane, of-both, lent, left, gives-as, reads-as, lends, lends-both, Exact, surface-puts}
 use Rattle.console.specs.declared.Stepped.{Stepped}
 use Rattle.console.specs.History.{blockRun}
 use Rattle.console.proofs.Answered.{every-step}
-use Rattle.host.proofs.Calls.{HostCall, starts, loads, enters, leaves, cycles, reads, lists, steps, eventsMade, stepAnswer, Cycles, HostDid, HostRan, nothing-yet, call, allMade, Emptied}
-use Rattle.host.proofs.History.{host-history, host-history-from-empty, host-calls, host-never-broken}
+use Rattle.host.proofs.Calls.{HostCall, starts, loads, enters, leaves, surfaces, cycles, reads, lists, steps, eventsMade, stepAnswer, Cycles, HostDid, HostRan, nothing-yet, call, allMade, Emptied}
+use Rattle.host.proofs.History.{host-history, host-history-from-empty, host-surface-changes, host-calls, host-never-broken}
 use Rattle.host.proofs.rondavitse_empty.Reads as empty-reads
 use Rattle.host.proofs.rondavitse_start.Reads as start-reads
 use Rattle.host.proofs.rondavitse_load.Reads as load-reads
 use Rattle.host.proofs.rondavitse_enter.Reads as enter-reads
 use Rattle.host.proofs.rondavitse_leave.Reads as leave-reads
+use Rattle.host.proofs.rondavitse_surface.Reads as surface-reads
 use Rattle.host.proofs.rondavitse_cycle.Reads as cycle-reads
 use Rattle.host.proofs.rondavitse_read.Reads as read-reads
 use Rattle.host.proofs.rondavitse_lane_text.Reads as text-reads
@@ -93,6 +94,10 @@ host-does (leaves number) l =
     let x = leave-call number in
     let r = returned x (stateOf l) in
     record { answer = bare (r .0) []; after = left x l; did = lends (r .0, refl, gives-as x l (r .1)) }
+host-does (surfaces code) l =
+    let x = surface-call code in
+    let r = returned x (stateOf l) in
+    record { answer = bare (r .0) []; after = left x l; did = lends (r .0, refl, (gives-as x l (r .1), surface-puts l code (r .1))) }
 host-does (cycles count sorts values) l =
     let c = cycles-some l count sorts values (eqb (wishesNo count sorts values) 0) refl in
     record { answer = cycled (c .0); after = c .1; did = (c .0, refl, c .2) }
@@ -148,12 +153,12 @@ every-host-list l (x ∷ xs) =
     record { events = eventsMade x (d .answer) (d .after) ++ h .events; last = h .last; ran = call (d .answer) (d .did) (h .ran) }
 
 -- for every list of exported calls from an empty lane there is a history: its calls are those that the exported ones are, what is claimed holds
--- throughout, and no call gives 21 after a start
+-- throughout and of changes of surface, and no call gives 21 after a start
 pub every-host-list-claimed : (l : Words) → stateOf l .count ≡ 0 → (xs : List HostCall)
-    → (h : HostHistoryOf l xs) × (callsIn (h .events) ≡ allMade xs) × Throughout (begun l) (h .events) × NeverBroken false (h .events)
+    → (h : HostHistoryOf l xs) × (callsIn (h .events) ≡ allMade xs) × Throughout (begun l) (h .events) × SurfaceChanges l (h .events) × NeverBroken false (h .events)
 every-host-list-claimed l e xs =
     let h = every-host-list l xs in
-    (h, host-calls (h .ran), host-history l e xs (h .events) (h .last) (h .ran), host-never-broken (h .ran))
+    (h, host-calls (h .ran), host-history l e xs (h .events) (h .last) (h .ran), host-surface-changes l e xs (h .events) (h .last) (h .ran), host-never-broken (h .ran))
 
 -- and from the lane that `rondavitse_empty` gives
 pub every-host-list-from-empty : (xs : List HostCall) → Emptied emptyWords × ((h : HostHistoryOf emptyWords xs) × Throughout (begun emptyWords) (h .events))
@@ -163,9 +168,9 @@ every-host-list-from-empty xs =
     (e, (h, host-history-from-empty emptyWords e xs (h .events) (h .last) (h .ran)))
 
 -- each exported call may stand in a list, with any arguments
-pub each-host-call : (l : Words) (road : Road) (first : ℕ) (table : List ℕ) (c : Carrier) (number count : ℕ) (sorts values buffer input : List ℕ) (at : ℕ)
-    → HostHistoryOf l (starts road first ∷ loads table ∷ enters c ∷ leaves number ∷ cycles count sorts values ∷ reads number ∷ lists buffer ∷ steps input at buffer ∷ [])
-each-host-call l road first table c number count sorts values buffer input at = every-host-list l _
+pub each-host-call : (l : Words) (road : Road) (first : ℕ) (table : List ℕ) (c : Carrier) (number code count : ℕ) (sorts values buffer input : List ℕ) (at : ℕ)
+    → HostHistoryOf l (starts road first ∷ loads table ∷ enters c ∷ leaves number ∷ surfaces code ∷ cycles count sorts values ∷ reads number ∷ lists buffer ∷ steps input at buffer ∷ [])
+each-host-call l road first table c number code count sorts values buffer input at = every-host-list l _
 
 -- ---- whatever a contract says is a step of a list
 
@@ -177,6 +182,7 @@ pub each-contract : (κ : Lfts 1) (κs : Lfts 2) (ks : Lfts 3) (l : RefT Words) 
     × (load-reads.Asked κs (l, (text, tt)) × ((no : ℕ) → load-reads.Learnt κs (l, (text, tt)) no (at-last l m, (text, tt)) → HostDid (loads (now text)) (now l) (bare no []) m))
     × (enter-reads.Asked κ (l, (c, tt)) × ((r : Entered) → enter-reads.Learnt κ (l, (c, tt)) r (at-last l m, (c, tt)) → HostDid (enters c) (now l) (entered r) m))
     × (leave-reads.Asked κ (l, (n, tt)) × ((no : ℕ) → leave-reads.Learnt κ (l, (n, tt)) no (at-last l m, (n, tt)) → HostDid (leaves n) (now l) (bare no []) m))
+    × (surface-reads.Asked κ (l, (n, tt)) × ((no : ℕ) → surface-reads.Learnt κ (l, (n, tt)) no (at-last l m, (n, tt)) → HostDid (surfaces n) (now l) (bare no []) m))
     × (cycle-reads.Asked ks (l, (n, (sorts, (values, tt)))) × ((r : Cycled) → cycle-reads.Learnt ks (l, (n, (sorts, (values, tt)))) r (at-last l m, (n, (sorts, (values, tt)))) → HostDid (cycles n (now sorts) (now values)) (now l) (cycled r) m))
     × (read-reads.Asked κ (l, (n, tt)) × ((r : ReadOut) → read-reads.Learnt κ (l, (n, tt)) r (l, (n, tt)) → HostDid (reads n) (now l) (readOut r) (now l)))
     × (text-reads.Asked κs (l, (out, tt)) × ((r : Listed) (bytes : List ℕ) → text-reads.Learnt κs (l, (out, tt)) r (l, (at-last out bytes, tt)) → HostDid (lists (now out)) (now l) (listed r bytes) (now l)))
@@ -187,6 +193,7 @@ each-contract κ κs ks l m road c n sorts values text out at = (
   (tt, λ no s. of-lane κ l (no, refl, s)),
   (tt, λ no s. of-both κs l text (no, refl, s)),
   (tt, λ r s. of-lane κ l (r, refl, s)),
+  (tt, λ no s. of-lane κ l (no, refl, s)),
   (tt, λ no s. of-lane κ l (no, refl, s)),
   (tt, λ r s. (r, refl, record { κs = ks; lane = l; of-sorts = sorts; of-values = values; before = refl; sorts-are = refl; values-are = refl; says = s })),
   (tt, λ r s. (refl, of-lane κ l (r, refl, s))),

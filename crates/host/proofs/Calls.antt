@@ -16,7 +16,7 @@ use Rattle.lane.specs.declared.ReadOut.{ReadOut}
 use Rattle.lane.specs.declared.Road.{Road}
 use Rattle.lane.specs.State.{State}
 use Rattle.lane.specs.Layout.{Words, stateOf}
-use Rattle.lane.specs.Call.{Call, start-call, load-call, enter-call, leave-call, cycle-call, read-call, text-call, Answer, bare, callAnswer, entered, cycled, readOut, listed}
+use Rattle.lane.specs.Call.{Call, start-call, load-call, enter-call, leave-call, surface-call, cycle-call, read-call, text-call, Answer, bare, callAnswer, entered, cycled, readOut, listed}
 use Rattle.lane.specs.Given.{wishesNo, wishesGiven}
 use Rattle.console.specs.declared.Stepped.{Stepped}
 use Rattle.console.specs.Blocks.{Parsed, parsed, malformed}
@@ -27,6 +27,7 @@ use Rattle.host.proofs.rondavitse_start.Reads as start-reads
 use Rattle.host.proofs.rondavitse_load.Reads as load-reads
 use Rattle.host.proofs.rondavitse_enter.Reads as enter-reads
 use Rattle.host.proofs.rondavitse_leave.Reads as leave-reads
+use Rattle.host.proofs.rondavitse_surface.Reads as surface-reads
 use Rattle.host.proofs.rondavitse_cycle.Reads as cycle-reads
 use Rattle.host.proofs.rondavitse_read.Reads as read-reads
 use Rattle.host.proofs.rondavitse_lane_text.Reads as text-reads
@@ -38,6 +39,7 @@ pub data HostCall : Type 0 where
   loads : (text : List ℕ) → HostCall
   enters : Carrier → HostCall
   leaves : (number : ℕ) → HostCall
+  surfaces : (code : ℕ) → HostCall
   cycles : (count : ℕ) → (sorts values : List ℕ) → HostCall
   reads : (number : ℕ) → HostCall
   lists : (buffer : List ℕ) → HostCall
@@ -49,6 +51,7 @@ callsMade (starts road first) = start-call road first ∷ []
 callsMade (loads text) = load-call text ∷ []
 callsMade (enters c) = enter-call c ∷ []
 callsMade (leaves number) = leave-call number ∷ []
+callsMade (surfaces code) = surface-call code ∷ []
 callsMade (cycles count sorts values) = cond (eqb (wishesNo count sorts values) 0) (cycle-call count (wishesGiven count sorts values) ∷ []) []
 callsMade (reads number) = read-call number ∷ []
 callsMade (lists buffer) = text-call buffer ∷ []
@@ -97,6 +100,8 @@ HostDid (enters c) l a m =
     OfLane l λ κs lane. (r : Entered) × (a ≡ entered r) × enter-reads.Learnt κs (lane, (c, tt)) r (at-last lane m, (c, tt))
 HostDid (leaves number) l a m =
     OfLane l λ κs lane. (no : ℕ) × (a ≡ bare no []) × leave-reads.Learnt κs (lane, (number, tt)) no (at-last lane m, (number, tt))
+HostDid (surfaces code) l a m =
+    OfLane l λ κs lane. (no : ℕ) × (a ≡ bare no []) × surface-reads.Learnt κs (lane, (code, tt)) no (at-last lane m, (code, tt))
 HostDid (cycles count sorts values) l a m = (r : Cycled) × (a ≡ cycled r) × Cycles l count sorts values r m
 HostDid (reads number) l a m =
     (m ≡ l) × OfLane l (λ κs lane. (r : ReadOut) × (a ≡ readOut r) × read-reads.Learnt κs (lane, (number, tt)) r (lane, (number, tt)))

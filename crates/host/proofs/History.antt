@@ -12,14 +12,15 @@ use Rattle.lane.specs.Call.{Call, load-call, cycle-call, text-call, Answer, cyc
 use Rattle.lane.specs.Given.{wishesNo, wishesGiven, GivesWith}
 use Rattle.lane.proofs.Laws.{wishes-enough}
 use Rattle.history.specs.Book.{begun}
-use Rattle.history.specs.History.{Event, callsIn, Chain, chain-end, chain-next, Throughout, LoadedRowsServe, NeverBroken}
+use Rattle.history.specs.History.{Event, callsIn, Chain, chain-end, chain-next, Throughout, LoadedRowsServe, SurfaceChanges, NeverBroken}
 use Rattle.history.proofs.History.{given-of, read-of, chain-history}
 use Rattle.history.proofs.Consequences.{chain-never-broken}
 use Rattle.history.proofs.Rows.{chain-loaded-rows-serve}
+use Rattle.history.proofs.Changes.{chain-surface-changes}
 use Rattle.console.specs.Blocks.{Parsed, parsed, malformed}
 use Rattle.console.specs.History.{blockRun, eventsOf, callsWith}
 use Rattle.console.proofs.Calls.{step-chain}
-use Rattle.host.proofs.Calls.{HostCall, starts, loads, enters, leaves, cycles, reads, lists, steps, callsMade, eventsMade, stepAnswer, HostDid, HostRan, nothing-yet, call, allMade, Emptied}
+use Rattle.host.proofs.Calls.{HostCall, starts, loads, enters, leaves, surfaces, cycles, reads, lists, steps, callsMade, eventsMade, stepAnswer, HostDid, HostRan, nothing-yet, call, allMade, Emptied}
 
 -- a cycle by its wishes: one whose wishes cannot be made is no call
 one-cycle : (count : ℕ) (sorts values : List ℕ) {l m d : Words} {a : Answer} {fs : List Event} → HostDid (cycles count sorts values) l a m → Chain m fs d
@@ -48,6 +49,7 @@ one-call (loads text) {l} {m} a h c =
     chain-next (subst (λ (t : List ℕ). Gives (load-call t) l a m) (h .lent) g) tt c
 one-call (enters c) a h k = chain-next (given-of (h .before) (h .says .1) (h .says .2)) tt k
 one-call (leaves number) a h c = chain-next (given-of (h .before) (h .says .1) (h .says .2)) tt c
+one-call (surfaces code) a h c = chain-next (given-of (h .before) (h .says .1) (h .says .2 .0)) tt c
 one-call (cycles count sorts values) a h c = one-cycle count sorts values h c
 one-call (reads number) a h c = chain-next (read-of (h .0) (h .1 .before) (h .1 .says .1) (h .1 .says .2 .0)) tt c
 one-call (lists buffer) {l} {m} a h c =
@@ -72,6 +74,10 @@ host-history-from-empty l e xs es d r = subst (λ (k : Words). Throughout (begun
 -- rows that `rondavitse_load` brought are in force from the next accepted start to the one after it
 pub host-loaded-rows-serve : (l : Words) (xs : List HostCall) (es : List Event) (d : Words) → HostRan l xs es d → LoadedRowsServe es
 host-loaded-rows-serve l xs es d r = chain-loaded-rows-serve (is-chain r)
+
+-- `rondavitse_surface`, or a block, changes the surface exactly where the book's carriers are safe on it, and it serves until another one or a start
+pub host-surface-changes : (l : Words) → stateOf l .count ≡ 0 → (xs : List HostCall) (es : List Event) (d : Words) → HostRan l xs es d → SurfaceChanges l es
+host-surface-changes l e xs es d r = chain-surface-changes e (is-chain r)
 
 -- the calls of the lane are those that the exported calls are, refused or not
 pub host-calls : {l d : Words} {xs : List HostCall} {es : List Event} → HostRan l xs es d → callsIn es ≡ allMade xs

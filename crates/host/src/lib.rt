@@ -4,9 +4,9 @@ ghost use mathlib.Core.Bool.{false};
 ghost use mathlib.Core.List.{[]};
 ghost use lib.Ieee.Exact.{HasValue};
 ghost use lib.ListN.{drop};
-ghost use Rattle.lane.specs.Layout.{stateOf, emptyWords};
+ghost use Rattle.lane.specs.Layout.{stateOf, withCode, emptyWords};
 ghost use Rattle.lane.specs.Calls.{namedCarrier};
-ghost use Rattle.lane.specs.Call.{load-call, start-call, enter-call, leave-call, read-call, text-call, bare, entered, cycled, readOut, listed, Gives};
+ghost use Rattle.lane.specs.Call.{load-call, start-call, enter-call, leave-call, surface-call, read-call, text-call, bare, entered, cycled, readOut, listed, Gives};
 ghost use Rattle.lane.specs.Given.{GivesWith};
 ghost use Rattle.console.specs.Program.{stepInto, StepGives};
 ghost use Rattle.host.specs.Version.{version};
@@ -24,7 +24,7 @@ use lane::Road;
 pub extern "C" fn rondavitse_version() -> u32
     ensures { λ r. ⌜ r ≡ version ⌝ }
 {
-    4
+    5
 }
 
 #[no_mangle]
@@ -61,6 +61,15 @@ pub extern "C" fn rondavitse_leave(l: &mut Lane, number: u64) -> u32
     ensures { λ r. ⌜ Gives (leave-call number) (now (l .entry)) (bare r []) (now (l .exit)) ⌝ }
 {
     lane::leave(l, number)
+}
+
+// Another surface code between cycles.
+#[no_mangle]
+pub extern "C" fn rondavitse_surface(l: &mut Lane, surface: u64) -> u32
+    ensures given { λ r. ⌜ Gives (surface-call surface) (now (l .entry)) (bare r []) (now (l .exit)) ⌝ }
+    ensures words { λ r. ⌜ (r ≡ 0 → now (l .exit) ≡ withCode surface (now (l .entry))) ⌝ }
+{
+    lane::surface(l, surface)
 }
 
 #[no_mangle]

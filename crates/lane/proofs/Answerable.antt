@@ -1,10 +1,9 @@
 -- Every call has an answer on every lane, and a lane to leave: no contract of a call is empty, so that no list of calls is without a history.
 use mathlib.Core.Path.{_≡_, refl, sym, ap, _∙_}
-use mathlib.Core.Bool.{Bool, true, false, cond, true≢false}
+use mathlib.Core.Bool.{Bool, true, false, cond}
 use mathlib.Core.List.{List, []}
 use Prim.Native.Nat.{ℕ, _≤_}
 use native.Mathlib.Omega.{arith}
-use borrow.Author.Tests.{eqb-true, eqb-false}
 use lib.Dec.{eqb}
 use lib.Ieee.Exact.{HasValue}
 use lib.ListN.{length}
@@ -18,60 +17,11 @@ use Rattle.lane.specs.declared.ReadOut.{ReadOut}
 use Rattle.lane.specs.Limits.{mostCarriers}
 use Rattle.lane.specs.State.{State}
 use Rattle.lane.specs.Layout.{Words, stateOf}
-use Rattle.lane.specs.Table.{tableIn, rowsLoaded, loadedState}
-use Rattle.lane.specs.Calls.{none, begunState, enterNo, enteredState, leftState, namedNo, namedCarrier, cycleNo, cycleGone, cycledState}
-use Rattle.lane.specs.Call.{Call, start-call, load-call, enter-call, leave-call, cycle-call, read-call, text-call, Answer, bare, placed, run, shown, told, meaning, callNo, acceptedState, lentTo, acceptedAnswer, callAnswer, Gives, entered, cycled, readOut, listed}
-use Rattle.lane.proofs.checks.Records.{table-eight, wordsFor, Fills, words-for, withNext, with-next}
-use Rattle.lane.proofs.checks.TableTexts.{eight-loaded}
+use Rattle.lane.specs.Calls.{none, enterNo, namedNo, namedCarrier, cycleNo, cycleGone}
+use Rattle.lane.specs.Call.{Call, start-call, load-call, enter-call, leave-call, surface-call, cycle-call, read-call, text-call, Answer, bare, placed, run, shown, told, callNo, lentTo, acceptedAnswer, callAnswer, entered, cycled, readOut, listed}
 use Rattle.lane.proofs.checks.Soundness.{fit-at, fit-narrow}
-use Rattle.lane.proofs.calls.Answers.{refused-changes-nothing, accepted-changes, accepted-answers, answer-number, counted-most, load-tells, enter-tells, walk-le, named-tells, ready-tells, cycle-tells}
-
--- ---- the lane that is left
-
--- a lane of the state after an accepted call; a call that only reads leaves the one lent
-abbrev Leaves : (l : Words) → State → (reads : Bool) → Type 0
-Leaves l s reads = (m : Words) × (stateOf m ≡ s) × (reads ≡ true → m ≡ l)
-
-written : (l : Words) (s : State) → Fills s → Leaves l s false
-written l s e = (wordsFor s, words-for s e, λ r. absurd (true≢false (sym r)))
-
--- the tables of a lane have eight rows each
-filled : (l : Words) (s : State) → s .count ≡ length (s .carriers) → s .tables ≡ stateOf l .tables → Fills s
-filled l s e f = record { counted = e; in-force = rw f (table-eight 1 l); next = rw f (table-eight 9 l) }
-
-leaves : (x : Call) (l : Words) → callNo x (stateOf l) ≡ 0 → Leaves l (acceptedState x (stateOf l)) (meaning x .reads)
-unfolding loadedState enteredState leftState cycledState
-leaves (start-call road first) l z =
-    written l (begunState (stateOf l) road first) (record { counted = refl; in-force = table-eight 9 l; next = table-eight 9 l })
-leaves (load-call text) l z =
-    let rows = rowsLoaded (tableIn text) in
-    (withNext l rows, with-next l rows (eight-loaded text (load-tells (stateOf l) text z .good)), λ r. absurd (true≢false (sym r)))
-leaves (enter-call c) l z = written l (enteredState (stateOf l) c) (filled l _ refl refl)
-leaves (leave-call number) l z = written l (leftState (stateOf l) number) (filled l _ refl refl)
-leaves (cycle-call count ws) l z = written l (cycledState (stateOf l) ws) (filled l _ refl refl)
-leaves (read-call number) l z = (l, refl, λ r. refl)
-leaves (text-call buffer) l z = (l, refl, λ r. refl)
-
-pub gives-some : (x : Call) (l : Words) → (m : Words) × Gives x l (callAnswer x (stateOf l)) m × (meaning x .reads ≡ true → m ≡ l)
-gives-some x l = by-test (eqb (callNo x (stateOf l)) 0) refl
-  where
-    by-test : (t : Bool) → eqb (callNo x (stateOf l)) 0 ≡ t
-        → (m : Words) × Gives x l (callAnswer x (stateOf l)) m × (meaning x .reads ≡ true → m ≡ l)
-    by-test true e =
-        let z = eqb-true (callNo x (stateOf l)) 0 e in
-        let m = leaves x l z in (
-          m .0,
-          record {
-            answer = refl;
-            state = m .1 ∙ sym (accepted-changes x (stateOf l) z);
-            refused = λ p. absurd (omega (arith, answer-number x (stateOf l), z));
-          },
-          m .2,
-        )
-    by-test false e =
-        (l, record { answer = refl; state = sym (refused-changes-nothing x (stateOf l) (eqb-false _ 0 e)); refused = λ p. refl }, λ r. refl)
-
--- ---- the answer
+use Rattle.lane.proofs.calls.Answers.{accepted-answers, answer-number, counted-most, enter-tells, walk-le, named-tells, ready-tells, cycle-tells}
+pub use Rattle.lane.proofs.calls.Left.{gives-some, surface-words}
 
 -- an answer in the form in which the call's function returns it
 abbrev pub Returned : Call → Answer → Type 0
@@ -79,6 +29,7 @@ Returned (start-call road first) a = (no : ℕ) × (a ≡ bare no [])
 Returned (load-call text) a = (no : ℕ) × (a ≡ bare no [])
 Returned (enter-call c) a = (r : Entered) × (a ≡ entered r)
 Returned (leave-call number) a = (no : ℕ) × (a ≡ bare no [])
+Returned (surface-call code) a = (no : ℕ) × (a ≡ bare no [])
 Returned (cycle-call count ws) a = (r : Cycled) × (a ≡ cycled r)
 Returned (read-call number) a = (r : ReadOut) × (a ≡ readOut r)
 Returned (text-call buffer) a = (r : Listed) × (a ≡ listed r (a .bytes))
@@ -106,6 +57,9 @@ returned (enter-call c) s =
     (record { no = a .number; place = a .place }, kept-by x s (λ a. placed (a .number) (a .place)) refl refl)
 returned (leave-call number) s =
     let x = leave-call number in
+    (callAnswer x s .number, kept-by x s (λ a. bare (a .number) []) refl refl)
+returned (surface-call code) s =
+    let x = surface-call code in
     (callAnswer x s .number, kept-by x s (λ a. bare (a .number) []) refl refl)
 returned (cycle-call count ws) s =
     let x = cycle-call count ws in

@@ -15,19 +15,19 @@ use Rattle.lane.specs.Limits.{farthestEnd, fastest, lastCycle}
 use Rattle.lane.specs.Surface.{houseRows, rowOf, soundRow, unsoundBelow, unsound, rowIn}
 use Rattle.lane.specs.Layout.{tableFrom, stateOf, emptyWords}
 use Rattle.lane.specs.State.{State}
-use Rattle.lane.specs.Safety.{leader, safeWith, anyOf, firstPlace, numbered}
+use Rattle.lane.specs.Safety.{leader, safeWith, laneSafe, anyOf, firstPlace, numbered}
 use Rattle.lane.specs.Rules.{outsideOf, badNumber, tooFast, tooLong, roadNo, newcomerNo, broken}
 use Rattle.lane.specs.Wishes.{anyOutside}
 use Rattle.lane.specs.Table.{tableIn, badTable, rowsLoaded, loadNo, loadedState}
-use Rattle.lane.specs.Calls.{none, withCarriers, startNo, begunState, aheadOf, walk, gapNo, placeNo, enterNo, insertAt, enteredState, namedNo, placeOf, removeAt, leftState, readyNo, cycleNo}
+use Rattle.lane.specs.Calls.{none, withCarriers, startNo, begunState, aheadOf, walk, gapNo, placeNo, enterNo, insertAt, enteredState, namedNo, placeOf, removeAt, leftState, readyNo, cycleNo, surfaceNo, surfacedState}
 use Rattle.lane.specs.Listing.{laneText, textNo}
-use Rattle.lane.specs.Call.{Call, start-call, load-call, enter-call, leave-call, cycle-call, read-call, text-call, Meaning, meaning, callNo, acceptedState, callState, Kept}
+use Rattle.lane.specs.Call.{Call, start-call, load-call, enter-call, leave-call, surface-call, cycle-call, read-call, text-call, Meaning, meaning, callNo, acceptedState, callState, Kept}
 use Rattle.lane.proofs.lists.Passed.{both}
 use Rattle.lane.proofs.calls.Answers.{accepted-changes, accepted-sound, load-tells}
 use Rattle.lane.proofs.checks.Records.{code-by-code}
 use Rattle.lane.proofs.checks.Soundness.{Sound, sound, sound-holds}
 use Rattle.lane.proofs.calls.Order.{lane-order}
-use Rattle.lane.proofs.calls.Keeps.{start-keeps, load-keeps, enter-keeps, leave-keeps, cycle-keeps}
+use Rattle.lane.proofs.calls.Keeps.{start-keeps, load-keeps, enter-keeps, leave-keeps, surface-keeps, cycle-keeps}
 -- "Read, lane text and every refused call: nothing changes."; what number is answered
 pub use Rattle.lane.proofs.calls.Answers.{refused-changes-nothing, answer-number}
 
@@ -101,6 +101,12 @@ enter-check s c =
     (one-of b (badNumber (c .number)) 4 _ refl
     (one-of b (leb (s .road .end) (c .position)) 5 _ refl (one-of b (tooFast (s .road) c) 6 _ refl (last-check b (tooLong c) 33 refl)))))
 
+surface-check : (s : State) (code : ℕ) → lawfulNo (broken s) (surfaceNo s code) ≡ true
+unfolding surfaceNo
+surface-check s code =
+    let b = broken s in
+    state-check b _ (one-of b (ltb 7 code) 1 _ refl (one-of b (laneSafe (rowOf (s .tables .inForce) code) (s .carriers)) 0 34 refl refl))
+
 cycle-check : (s : State) (count : ℕ) (ws : List Wish) → lawfulNo (broken s) (cycleNo s count ws) ≡ true
 unfolding readyNo cycleNo
 cycle-check s count ws =
@@ -139,6 +145,7 @@ lawful (start-call road first) = record { leaves = λ s counted e. kept (start-k
 lawful (load-call text) = record { leaves = λ s counted e. load-outcome s counted text e; numbered = λ s. load-check s text }
 lawful (enter-call c) = record { leaves = λ s counted e. kept (enter-keeps s counted c e); numbered = λ s. enter-check s c }
 lawful (leave-call number) = record { leaves = λ s counted e. kept (leave-keeps s counted number e); numbered = λ s. named-check s number }
+lawful (surface-call code) = record { leaves = λ s counted e. kept (surface-keeps s counted code e); numbered = λ s. surface-check s code }
 lawful (cycle-call count ws) = record { leaves = λ s counted e. kept (cycle-keeps s counted count ws e); numbered = λ s. cycle-check s count ws }
 lawful (read-call number) =
     record { leaves = λ s counted e. kept (unchanged s counted (accepted-sound s _ e)); numbered = λ s. named-check s number }
@@ -237,6 +244,20 @@ pub leave-accepted : (s : State) (number : ℕ) → namedNo s number ≡ 0
     → callState (leave-call number) s ≡ withCarriers s (removeAt (placeOf number (s .carriers)) (s .carriers))
 unfolding leftState
 leave-accepted s number e = accepted-changes (leave-call number) s e
+
+-- the surface code, and nothing else
+pub surface-accepted : (s : State) (code : ℕ) → surfaceNo s code ≡ 0
+    → callState (surface-call code) s
+    ≡ record {
+      started = s .started;
+      road = record { surface = code; end = s .road .end; limit = s .road .limit };
+      tables = s .tables;
+      cycle = s .cycle;
+      count = s .count;
+      carriers = s .carriers;
+    }
+unfolding surfacedState
+surface-accepted s code e = accepted-changes (surface-call code) s e
 
 -- read and lane text change nothing, refused or not
 unchanging : (x : Call) (s : State) → acceptedState x s ≡ s → callState x s ≡ s

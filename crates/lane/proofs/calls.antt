@@ -6,3 +6,4 @@ pub mod Entering
 pub mod Leaving
 pub mod Order
 pub mod Keeps
+pub mod Left

@@ -17,7 +17,7 @@ use Rattle.lane.specs.State.{State}
 use Rattle.lane.specs.Layout.{Words, stateOf}
 use Rattle.lane.specs.Rules.{broken}
 use Rattle.lane.specs.Table.{loadNo, loadedState}
-use Rattle.lane.specs.Calls.{ifAccepted, startNo, begunState, walk, enterNo, enteredState, namedNo, leftState, namedReading, cycleNo, cycleWord, cycleReplaced, cycleGone, cycledState}
+use Rattle.lane.specs.Calls.{ifAccepted, startNo, begunState, walk, enterNo, enteredState, namedNo, leftState, namedReading, cycleNo, cycleWord, cycleReplaced, cycleGone, cycledState, surfaceNo, surfacedState}
 use Rattle.lane.specs.Listing.{laneText, textNo, textBytes}
 
 -- a call with its arguments, but for the lane; of the lane text, the bytes of the lent buffer before the call
@@ -26,6 +26,7 @@ pub data Call : Type 0 where
   load-call : (text : List ℕ) → Call
   enter-call : Carrier → Call
   leave-call : (number : ℕ) → Call
+  surface-call : (code : ℕ) → Call
   cycle-call : (count : ℕ) → (wishes : List Wish) → Call
   read-call : (number : ℕ) → Call
   text-call : (buffer : List ℕ) → Call
@@ -88,6 +89,8 @@ meaning (enter-call c) =
     }
 meaning (leave-call number) =
     record { number = λ s. namedNo s number; after = λ s. leftState s number; answer = λ s. bare 0 []; lent = []; reads = false }
+meaning (surface-call code) =
+    record { number = λ s. surfaceNo s code; after = λ s. surfacedState s code; answer = λ s. bare 0 []; lent = []; reads = false }
 meaning (cycle-call count ws) =
     record {
       number = λ s. cycleNo s count ws;

@@ -13,10 +13,10 @@ use Rattle.lane.specs.declared.Carrier.{Carrier}
 use Rattle.lane.specs.declared.Drive.{Drive}
 use Rattle.lane.specs.declared.Road.{Road}
 use Rattle.lane.specs.declared.Row.{Row}
-use Rattle.lane.specs.Limits.{mostCarriers, lastCycle}
-use Rattle.lane.specs.Surface.{unsound, rowIn}
+use Rattle.lane.specs.Limits.{lastSurface, mostCarriers, lastCycle}
+use Rattle.lane.specs.Surface.{rowOf, unsound, rowIn}
 use Rattle.lane.specs.State.{State}
-use Rattle.lane.specs.Safety.{Ahead, nobody, leader, safeWith, anyOf, firstPlace, numbered}
+use Rattle.lane.specs.Safety.{Ahead, nobody, leader, safeWith, laneSafe, anyOf, firstPlace, numbered}
 use Rattle.lane.specs.Rules.{badNumber, roadNo, newcomerNo, broken}
 use Rattle.lane.specs.Wishes.{wishedUnits, anyOutside, drives, allMoved, replacedIn, wordOf, countOf, remaining}
 
@@ -166,3 +166,28 @@ cycleGone s ws = s .count - length (cycleCarriers s ws)
 -- "a cycle raises it by one"
 unfoldable pub cycledState : State → List Wish → State
 cycledState s ws = atCycle (s .cycle + 1) (withCarriers s (cycleCarriers s ws))
+
+-- ---- surface: document 02, T-05, "to change the surface code between cycles"
+
+-- the road with another surface code
+abbrev pub onSurface : (code : ℕ) → Road → Road
+onSurface code road = record { surface = code; end = road .end; limit = road .limit }
+
+-- "The change is accepted if the whole lane is safe under the new row and refused otherwise."; "Turned away: 34 the lane wouldn't be safe, after
+-- 21 and 1."; the new row is that of the code among those in force
+unfoldable pub surfaceNo : State → (code : ℕ) → ℕ
+surfaceNo s code =
+    cond (broken s) 21
+    (cond (ltb lastSurface code) 1 (cond (laneSafe (rowOf (s .tables .inForce) code) (s .carriers)) 0 34))
+
+-- "Positions, speeds and the cycle number don't move."
+unfoldable pub surfacedState : State → (code : ℕ) → State
+surfacedState s code =
+    record {
+      started = s .started;
+      road = onSurface code (s .road);
+      tables = s .tables;
+      cycle = s .cycle;
+      count = s .count;
+      carriers = s .carriers;
+    }

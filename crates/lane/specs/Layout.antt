@@ -5,7 +5,7 @@
 use Prim.Native.Nat.{ℕ, _+_}
 use mathlib.Core.List.{List, [], _∷_, _++_, map}
 use lib.Dec.{eqb}
-use lib.ListN.{getD, take, drop, replicate}
+use lib.ListN.{getD, take, drop, set, replicate}
 use Rattle.lane.specs.declared.Carrier.{Carrier}
 use Rattle.lane.specs.declared.Row.{Row}
 use Rattle.lane.specs.declared.layout.Figures.{Figures}
@@ -68,6 +68,10 @@ stateWith f tables records =
 -- the state of a lane
 abbrev pub stateOf : Words → State
 stateOf l = stateWith (figuresIn l) (tablesIn l) (recordsIn l)
+
+-- the lane with another surface code, and every other word as it was
+abbrev pub withCode : (code : ℕ) → Words → Words
+withCode code l = set l 0 (set (getD l 0 []) 1 code)
 
 -- the words of a surface row
 abbrev pub surfaceWords : Row → List ℕ

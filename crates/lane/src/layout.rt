@@ -4,7 +4,7 @@ ghost use mathlib.Core.List.{List, map};
 ghost use Prim.Native.Nat.{ℕ, _≤_, _<_};
 ghost use lib.ListN.{length, getD, set};
 ghost use Rattle.lane.specs.Surface.{rowOf};
-ghost use Rattle.lane.specs.Layout.{surfaceIn, tableFrom, tablesIn, figuresIn, recordsIn, emptyWords};
+ghost use Rattle.lane.specs.Layout.{surfaceIn, tableFrom, tablesIn, figuresIn, recordsIn, withCode, emptyWords};
 ghost use Rattle.lane.specs.Calls.{none};
 use crate::Carrier;
 use crate::Lane;
@@ -120,6 +120,15 @@ pub(crate) fn put_count(l: &mut Lane, cycle: u64, count: usize)
         row[6],
         row[7],
     ];
+}
+
+// The surface code put anew, and no other word.
+pub(crate) fn put_code(l: &mut Lane, code: u64)
+    ensures { λ r. ⌜ now (l .exit) ≡ withCode code (now (l .entry)) ⌝ }
+{
+    let mut row = l[0];
+    row[1] = code;
+    l[0] = row;
 }
 
 // The numbers of a surface row of a table.

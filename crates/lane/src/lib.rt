@@ -1,12 +1,12 @@
-// The lane's calls: load, start, enter, leave, cycle, read, lane text; and `find`, by which they look a carrier number up. A lane is lent and changed
-// in place. `no` is 0 where a call is accepted, else the number of its refusal, with every value zero and every word of the lane as it was.
+// The lane's calls: load, start, enter, leave, surface, cycle, read, lane text; and `find`, by which they look a carrier number up. A lane is lent and
+// changed in place. `no` is 0 where a call is accepted, else the number of its refusal, with every value zero and every word of the lane as it was.
 ghost use mathlib.Core.Path.{_≡_};
 ghost use mathlib.Core.Bool.{false};
 ghost use mathlib.Core.List.{[]};
 ghost use lib.Ieee.Exact.{HasValue};
-ghost use Rattle.lane.specs.Layout.{stateOf, emptyWords};
+ghost use Rattle.lane.specs.Layout.{stateOf, withCode, emptyWords};
 ghost use Rattle.lane.specs.Calls.{namedCarrier};
-ghost use Rattle.lane.specs.Call.{load-call, start-call, enter-call, leave-call, cycle-call, read-call, text-call, bare, entered, cycled, readOut, listed, Gives};
+ghost use Rattle.lane.specs.Call.{load-call, start-call, enter-call, leave-call, surface-call, cycle-call, read-call, text-call, bare, entered, cycled, readOut, listed, Gives};
 ghost use Rattle.lane.specs.Given.{GivesWith};
 
 mod given;
@@ -18,6 +18,7 @@ mod places;
 mod rows;
 mod rules;
 mod table;
+mod weather;
 
 pub use lookup::Found;
 pub use lookup::Lookup;
@@ -186,6 +187,19 @@ pub fn leave(l: &mut Lane, number: u64) -> u32
         return k.no;
     }
     places::remove(l, k.place);
+    0
+}
+
+// Another surface code between cycles.
+pub fn surface(l: &mut Lane, code: u64) -> u32
+    ensures given { λ r. ⌜ Gives (surface-call code) (now (l .entry)) (bare r []) (now (l .exit)) ⌝ }
+    ensures words { λ r. ⌜ (r ≡ 0 → now (l .exit) ≡ withCode code (now (l .entry))) ⌝ }
+{
+    let no = weather::surface_refusal(l, code);
+    if no != 0 {
+        return no;
+    }
+    layout::put_code(l, code);
     0
 }
 

@@ -141,7 +141,7 @@ fn safe_at(row: Row, ahead: Carrier, c: Carrier, stop: u64) -> bool
 }
 
 // The follower is safe behind the carrier ahead.
-fn safe(row: Row, ahead: Carrier, c: Carrier) -> bool
+pub(crate) fn safe(row: Row, ahead: Carrier, c: Carrier) -> bool
     requires { ⌜ (1 ≤ row .guaranteed) × (1 ≤ row .hardest) ⌝ }
     requires { ⌜ (c .position + ahead .length < 4294967296) × ((c .speed < 4294967296) × ((ahead .position < 4294967296) × (ahead .speed < 4294967296))) ⌝ }
     ensures { λ r. ⌜ r ≡ safeWith row (leader ahead) c ⌝ }

@@ -2,22 +2,22 @@
 use mathlib.Core.Path.{_≡_, refl, sym, ap, _∙_}
 use mathlib.Core.Bool.{Bool, true, false, not, _&&_, cond}
 use mathlib.Core.List.{List}
-use Prim.Native.Nat.{ℕ, _≤_, _<_}
+use Prim.Native.Nat.{ℕ, suc, _≤_, _<_}
 use native.Mathlib.Omega.{arith}
-use borrow.Author.Tests.{ne-eqb, eqb-true, eqb-false, ltb-true, not-false}
+use borrow.Author.Tests.{ne-eqb, eqb-true, eqb-false, ltb-true, ltb-false, not-false}
 use lib.Dec.{eqb, ltb}
 use lib.ListN.{length, take, length-take}
 use Rattle.wish.specs.declared.Wish.{Wish}
 use Rattle.lane.specs.declared.Carrier.{Carrier}
 use Rattle.lane.specs.Limits.{mostCarriers, lastCycle}
-use Rattle.lane.specs.Surface.{rowIn}
+use Rattle.lane.specs.Surface.{rowOf, rowIn}
 use Rattle.lane.specs.State.{State}
 use Rattle.lane.specs.Layout.{Words, stateOf, recordsIn}
-use Rattle.lane.specs.Safety.{anyOf, numbered}
+use Rattle.lane.specs.Safety.{laneSafe, anyOf, numbered}
 use Rattle.lane.specs.Rules.{badNumber, unlawful, pastEnd, newcomerNo, broken}
 use Rattle.lane.specs.Wishes.{anyOutside}
 use Rattle.lane.specs.Table.{tableIn, badTable, loadNo}
-use Rattle.lane.specs.Calls.{ifAccepted, walk, gapNo, placeNo, enterNo, namedNo, placeOf, readyNo, cycleNo}
+use Rattle.lane.specs.Calls.{ifAccepted, walk, gapNo, placeNo, enterNo, namedNo, placeOf, readyNo, cycleNo, surfaceNo}
 use Rattle.lane.specs.Call.{Call, Answer, callNo, acceptedState, lentTo, bare, acceptedAnswer, callAnswer, callState, Gives}
 use Rattle.lane.proofs.lists.Passed.{passed}
 use Rattle.lane.proofs.lists.Search.{place-any, place-le}
@@ -38,6 +38,11 @@ accepted-both n m e = by-test (eqb n 0) refl e
     by-test : (t : Bool) → eqb n 0 ≡ t → cond t m n ≡ 0 → (n ≡ 0) × (m ≡ 0)
     by-test true p q = (eqb-true n 0 p, q)
     by-test false p q = absurd (eqb-false n 0 p q)
+
+-- and a last check that gives a number where a test fails
+none-else : (t : Bool) (number : ℕ) → _≡_ {A = ℕ} (cond t 0 (suc number)) 0 → t ≡ true
+none-else true number e = refl
+none-else false number e = absurd (omega arith)
 
 -- ---- any call
 
@@ -151,12 +156,20 @@ pub record Names (s : State) (number : ℕ) : Type 0 where
 pub named-tells : (s : State) (number : ℕ) → namedNo s number ≡ 0 → Names s number
 unfolding namedNo
 named-tells s number e =
-    let there = present (anyOf (numbered number) (s .carriers)) (passed (badNumber number) 3 _ (passed (broken s) 20 _ e .1) .1) in
+    let there = none-else (anyOf (numbered number) (s .carriers)) 23 (passed (badNumber number) 3 _ (passed (broken s) 20 _ e .1) .1) in
     record { sound = accepted-sound s _ e; within = ltb-true _ _ (place-any (numbered number) (s .carriers) ∙ there) }
-  where
-    present : (t : Bool) → _≡_ {A = ℕ} (cond t 0 24) 0 → t ≡ true
-    present true f = refl
-    present false f = absurd (omega arith)
+
+-- a change of surface: the row of a code that there is keeps the lane safe
+pub record Surfaces (s : State) (code : ℕ) : Type 0 where
+  pub sound : Sound s
+  pub known : code ≤ 7
+  pub safe : laneSafe (rowOf (s .tables .inForce) code) (s .carriers) ≡ true
+
+pub surface-tells : (s : State) (code : ℕ) → surfaceNo s code ≡ 0 → Surfaces s code
+unfolding surfaceNo
+surface-tells s code e =
+    let there = passed (ltb 7 code) 0 _ (passed (broken s) 20 _ e .1) in
+    record { sound = accepted-sound s _ e; known = ltb-false 7 code (there .0); safe = none-else _ 33 (there .1) }
 
 -- a cycle, before its wishes are looked at
 pub record Ready (s : State) (count : ℕ) : Type 0 where

@@ -16,15 +16,15 @@ use Rattle.lane.specs.Safety.{nobody, safeFrom, laneSafe, anyOf, repeats
 use Rattle.lane.specs.Rules.{roadNo, unlawful, pastEnd, broken}
 use Rattle.lane.specs.Wishes.{wishedUnits, drives, allMoved, remaining}
 use Rattle.lane.specs.Table.{Rows, rows, malformed, tableIn, badTable, rowsLoaded, loadNo, loadedState}
-use Rattle.lane.specs.Calls.{withCarriers, atCycle, startNo, begunState, walk, insertAt, enterNo, enteredState, placeOf, removeAt, namedNo, leftState, cycleDrives, cycleNo, cycleCarriers, cycledState}
+use Rattle.lane.specs.Calls.{withCarriers, atCycle, startNo, begunState, walk, insertAt, enterNo, enteredState, placeOf, removeAt, namedNo, leftState, cycleDrives, cycleNo, cycleCarriers, cycledState, surfaceNo, surfacedState}
 use Rattle.lane.specs.Call.{Kept}
 use Rattle.lane.proofs.lists.Passed.{passed}
-use Rattle.lane.proofs.calls.Answers.{load-tells, enter-tells, walk-le, named-tells, ready-tells, cycle-tells}
+use Rattle.lane.proofs.calls.Answers.{load-tells, enter-tells, walk-le, named-tells, surface-tells, ready-tells, cycle-tells}
 use Rattle.lane.proofs.calls.Entering.{insert-length, insert-any, insert-repeats}
 use Rattle.lane.proofs.calls.Leaving.{Thinned, removed-thins, remaining-thins, thinned-length, thinned-any, thinned-repeats, remaining-before}
 use Rattle.lane.proofs.driving.Moving.{moved-length, moved-repeats, moved-lawful}
 use Rattle.lane.proofs.calls.Order.{thinned-safe, insert-safe}
-use Rattle.lane.proofs.checks.Soundness.{sound-road, Faultless, Sound, row-sound, sound, sound-holds}
+use Rattle.lane.proofs.checks.Soundness.{sound-road, surfaced-road, Faultless, surfaced-faultless, Sound, row-sound, sound, sound-holds}
 use Rattle.lane.proofs.checks.Surfaces.{SoundRow}
 use Rattle.lane.proofs.driving.Turns.{moved-safe}
 
@@ -157,6 +157,24 @@ module _ (s : State) (counted : s .count ≡ length (s .carriers)) where
       let l = removed-thins place (s .carriers) in
       kept s h (s .cycle) (removeAt place (s .carriers)) (thinned-allowed (row-sound h) l (allowed s h counted))
       (thinned-any (pastEnd (s .road)) l (h .carriers .before-end))
+
+  pub surface-keeps : (code : ℕ) → surfaceNo s code ≡ 0 → Kept (surfacedState s code)
+  unfolding surfacedState
+  surface-keeps code e =
+      let t = surface-tells s code e in
+      let h = t .sound in
+      record {
+        unbroken = sound-holds _
+            (record {
+              started = h .started;
+              road = surfaced-road code (s .road) (t .known) (h .road);
+              in-force = h .in-force;
+              next = h .next;
+              count = h .count;
+              carriers = surfaced-faultless code (s .road) (s .carriers) (h .carriers) _ (t .safe);
+            });
+        counted = counted;
+      }
 
   pub cycle-keeps : (count : ℕ) (ws : List Wish) → cycleNo s count ws ≡ 0 → Kept (cycledState s ws)
   unfolding cycledState cycleCarriers cycleDrives

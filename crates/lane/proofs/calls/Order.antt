@@ -1,12 +1,13 @@
 -- A safe lane at each place: in order, and safe still with carriers left out, or with one let in that is safe on both sides.
-use mathlib.Core.Path.{_≡_, refl}
-use mathlib.Core.Bool.{Bool, true, false, not, _&&_, cond}
+use mathlib.Core.Path.{_≡_, refl, sym, _∙_}
+use mathlib.Core.Bool.{Bool, true, false, not, _&&_, cond, true≢false}
 use mathlib.Core.List.{List, [], _∷_}
-use Prim.Native.Nat.{ℕ, zero, suc, _-_, _≤_, _<_}
+use Prim.Native.Nat.{ℕ, zero, suc, _+_, _-_, _≤_, _<_}
 use native.Mathlib.Omega.{arith}
 use borrow.Author.Tests.{lt-ltb, ltb-true, ltb-false, not-false}
 use lib.Dec.{ltb, eqb·suc-zero}
-use lib.ListN.{length, getD}
+use lib.ListN.{length, getD, take}
+use lib.Seq.{length-take-le, getD-take}
 use Rattle.headway.proofs.Laws.{safe-says, safe-trans}
 use Rattle.lane.specs.declared.Carrier.{Carrier}
 use Rattle.lane.specs.declared.Row.{Row}
@@ -53,6 +54,22 @@ module _ (r : Row) where
   safe-at ahead (c ∷ cs) zero s h = both (safeWith r ahead c) (safeFrom r (leader c) cs) s .0
   safe-at ahead (c ∷ cs) (suc i) s h = safe-at (leader c) cs i (both (safeWith r ahead c) (safeFrom r (leader c) cs) s .1) (omega arith)
 
+  -- and where each carrier is safe behind the next one ahead, the lane is
+  safe-each : (ahead : Ahead) (cs : List Carrier) → ((i : ℕ) → i < length cs → safeWith r (aheadIn ahead i cs) (getD cs i none) ≡ true)
+      → safeFrom r ahead cs ≡ true
+  unfolding safeFrom
+  safe-each ahead [] h = refl
+  safe-each ahead (c ∷ cs) h = rw (h 0 (omega arith)) (safe-each (leader c) cs (λ i p. h (suc i) (omega arith)))
+
+  pub safe-neighbours : (cs : List Carrier)
+      → ((i : ℕ) → suc i < length cs → safeWith r (leader (getD cs i none)) (getD cs (suc i) none) ≡ true) → laneSafe r cs ≡ true
+  unfolding laneSafe safeWith
+  safe-neighbours cs h = safe-each nobody cs at-place
+    where
+      at-place : (i : ℕ) → i < length cs → safeWith r (aheadIn nobody i cs) (getD cs i none) ≡ true
+      at-place zero p = refl
+      at-place (suc i) p = rw (ahead-leader nobody i cs (omega arith)) (h i p)
+
   -- ---- a safe lane is in order
   module _ (cs : List Carrier) (safe : laneSafe r cs ≡ true) where
     pub safe-behind-leader : (i : ℕ) → suc i < length cs → safeWith r (leader (getD cs i none)) (getD cs (suc i) none) ≡ true
@@ -66,6 +83,52 @@ module _ (r : Row) where
         let a = getD cs i none in
         let c = getD cs (suc i) none in
         safe-says (guaranteedRate r c) (r .hardest) (reachTo a c) (c .speed) (a .position) (a .speed) (safe-behind-leader i h) .below
+
+  -- ---- the pairs passed by a loop over a lane's records, of which the first `count` are its carriers
+  module _ (l : List Carrier) where
+    -- those before a place are safe
+    pub record Clear (place : ℕ) : Type 0 where
+      pub least : 1 ≤ place
+      pub pairs : (i : ℕ) → suc i < place → safeWith r (leader (getD l i none)) (getD l (suc i) none) ≡ true
+
+    pub clear-first : Clear 1
+    clear-first = record { least = omega arith; pairs = λ i p. absurd (omega arith) }
+
+    -- one more is
+    pub clear-on : (place : ℕ) → Clear place → safeWith r (leader (getD l (place - 1) none)) (getD l place none) ≡ true → Clear (place + 1)
+    clear-on place h safe = record { least = omega (arith, h .least); pairs = by-place }
+      where
+        by-place : (i : ℕ) → suc i < place + 1 → safeWith r (leader (getD l i none)) (getD l (suc i) none) ≡ true
+        by-place i p = by-test (ltb (suc i) place) refl
+          where
+            by-test : (t : Bool) → ltb (suc i) place ≡ t → safeWith r (leader (getD l i none)) (getD l (suc i) none) ≡ true
+            by-test true e = h .pairs i (ltb-true (suc i) place e)
+            by-test false e =
+                let here : place ≡ suc i = omega (arith, ltb-false (suc i) place e) in
+                let before : suc i - 1 ≡ i = omega arith in
+                rw (here, before) at safe
+
+    module _ (count : ℕ) (k : count ≤ length l) where
+      long : length (take count l) ≡ count
+      long = length-take-le count l k
+
+      -- all are
+      pub clear-all : (place : ℕ) → Clear place → count ≤ place → laneSafe r (take count l) ≡ true
+      clear-all place h past =
+          safe-neighbours (take count l) λ i p.
+          rw (getD-take count l i none (omega (arith, long)), getD-take count l (suc i) none (omega (arith, long))) (h .pairs i (omega (arith, long)))
+
+      -- one is not
+      pub clear-not : (place : ℕ) → 1 ≤ place → place < count → safeWith r (leader (getD l (place - 1) none)) (getD l place none) ≡ false
+          → laneSafe r (take count l) ≡ false
+      clear-not place least p e = by-test (laneSafe r (take count l)) refl
+        where
+          by-test : (t : Bool) → laneSafe r (take count l) ≡ t → t ≡ false
+          by-test true q =
+              let here : suc (place - 1) ≡ place = omega arith in
+              let held = safe-behind-leader (take count l) q (place - 1) (omega (arith, long)) in
+              absurd (true≢false (sym (rw (here, getD-take count l (place - 1) none (omega arith), getD-take count l place none p) at held) ∙ e))
+          by-test false q = refl
 
   -- ---- carriers left out
   module _ (sound : SoundRow r) where

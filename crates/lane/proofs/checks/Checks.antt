@@ -10,12 +10,12 @@ use lib.ListN.{take}
 use Rattle.lane.specs.declared.Carrier.{Carrier}
 use Rattle.lane.specs.declared.layout.Figures.{Figures}
 use Rattle.lane.specs.declared.rules.Checked.{Checked}
-use Rattle.lane.specs.Surface.{unsound, rowIn}
+use Rattle.lane.specs.Surface.{rowOf, unsound, rowIn}
 use Rattle.lane.specs.Layout.{Words, figuresIn, tableFrom, tablesIn, recordsIn, stateOf}
-use Rattle.lane.specs.Safety.{anyOf, numbered}
+use Rattle.lane.specs.Safety.{laneSafe, anyOf, numbered}
 use Rattle.lane.specs.Rules.{roadNo, faulty, broken}
 use Rattle.lane.specs.Table.{tableIn, badTable, loadNo}
-use Rattle.lane.specs.Calls.{ifAccepted, walk, gapNo, placeNo, readyNo}
+use Rattle.lane.specs.Calls.{ifAccepted, walk, gapNo, placeNo, readyNo, surfaceNo}
 
 module _ (l : Words) (f : Figures) (e : f ≡ figuresIn l) where
   pub broken-checks : broken (stateOf l)
@@ -37,6 +37,10 @@ module _ (l : Words) (f : Figures) (e : f ≡ figuresIn l) where
   pub ready-checks : (count : ℕ) → readyNo (stateOf l) count ≡ cond (broken (stateOf l)) 21 (cond (not (eqb count (f .count))) 27 (cond (eqb (f .cycle) 18446744073709551615) 28 0))
   unfolding readyNo
   ready-checks count = rw e refl
+
+  pub surface-checks : (code : ℕ) → surfaceNo (stateOf l) code ≡ cond (broken (stateOf l)) 21 (cond (ltb 7 code) 1 (cond (laneSafe (rowOf (tableFrom 1 l) code) (take (f .count) (recordsIn l))) 0 34))
+  unfolding surfaceNo
+  surface-checks code = rw e refl
 
 module _ (number place : ℕ) where
   pub refused-as : (refusal : ℕ) (r : Checked) → number ≡ refusal → (refusal ≡ 0 → ⊥) → r ≡ record { no = refusal; place = 0 }

@@ -12,8 +12,8 @@ use Rattle.lane.specs.declared.Row.{Row}
 use Rattle.lane.specs.declared.layout.Figures.{Figures}
 use Rattle.lane.specs.Surface.{row, rowOf, Tables}
 use Rattle.lane.specs.State.{State}
-use Rattle.lane.specs.Layout.{Words, surfaceIn, codes, tableFrom, tablesIn, tableWords, recordIn, recordsIn, figuresIn, stateWith, stateOf}
-use Rattle.lane.specs.Calls.{none, atCycle, withCarriers}
+use Rattle.lane.specs.Layout.{Words, surfaceIn, codes, tableFrom, tablesIn, tableWords, recordIn, recordsIn, figuresIn, stateWith, stateOf, withCode}
+use Rattle.lane.specs.Calls.{none, atCycle, withCarriers, onSurface, surfacedState}
 
 map-set : {A B : Type 0} (f : A → B) (l : List A) (i : ℕ) (a : A) → map f (set l i a) ≡ set (map f l) i (f a)
 map-set f [] i a = refl
@@ -91,6 +91,21 @@ module _ (l : Words) where
   -- a store to the first row puts its figures
   pub figures-put : (w : List ℕ) → 0 < length l → figuresIn (set l 0 w) ≡ figuresIn (w ∷ [])
   figures-put w h = rw (getD-set-same l 0 w [] h) refl
+
+-- the surface code put, in a lane of enough words that its end has one
+code-put : (l : Words) (code : ℕ) → 1 ≤ figuresIn l .road .end
+    → figuresIn (withCode code l) ≡ record { started = figuresIn l .started; road = onSurface code (figuresIn l .road); cycle = figuresIn l .cycle; count = figuresIn l .count }
+code-put [] code h = absurd (omega arith)
+code-put ([] ∷ l) code h = absurd (omega arith)
+code-put ((a ∷ []) ∷ l) code h = absurd (omega arith)
+code-put ((a ∷ b ∷ r) ∷ l) code h = refl
+
+pub code-state : (l : Words) (code : ℕ) → 1 ≤ stateOf l .road .end → stateOf (withCode code l) ≡ surfacedState (stateOf l) code
+unfolding surfacedState
+code-state l code h =
+    let w = set (getD l 0 []) 1 code in
+    ap₂ (λ (f : Figures) (t : Tables). stateWith f t (recordsIn (withCode code l))) (code-put l code h) (tables-kept l 0 w (λ code h e. omega arith))
+    ∙ ap (stateWith (record { started = figuresIn l .started; road = onSurface code (figuresIn l .road); cycle = figuresIn l .cycle; count = figuresIn l .count }) (tablesIn l)) (records-kept l 0 w (omega arith))
 
 -- stores that each leave what stands before the records
 pub same-head : {f g h : Figures} {s t u : Tables} → (h ≡ g) × (u ≡ t) → (g ≡ f) × (t ≡ s) → (h ≡ f) × (u ≡ s)

@@ -17,6 +17,7 @@ use Rattle.lane.specs.Layout.{Words, figuresIn, tablesIn, recordsIn, sta
 use Rattle.lane.specs.State.{State}
 use Rattle.lane.specs.Safety.{laneSafe, anyOf, repeats}
 use Rattle.lane.specs.Rules.{outsideOf, badNumber, roadNo, tooFast, tooLong, unlawful, pastEnd, faulty, broken, newcomerNo}
+use Rattle.lane.specs.Calls.{onSurface}
 use Rattle.lane.proofs.Newcomers.{Newcomer, newcomer-is}
 use Rattle.lane.proofs.lists.Lists.{slice-next}
 use Rattle.lane.proofs.lists.Tests.{neither, none-at, none-of, any-or}
@@ -61,6 +62,11 @@ sound-road-holds road h =
       le-ltb 8192 (road .limit) (h .limit-most),
     )
     refl
+
+-- another surface code leaves its bounds
+pub surfaced-road : (code : ℕ) (road : Road) → code ≤ 7 → SoundRoad road → SoundRoad (onSurface code road)
+surfaced-road code road known h =
+    record { surface = known; end-least = h .end-least; end-most = h .end-most; limit-least = h .limit-least; limit-most = h .limit-most }
 
 -- ---- a carrier by itself
 pub record Fit (road : Road) (c : Carrier) : Type 0 where
@@ -140,6 +146,11 @@ pub faultless-holds : (r : Row) (road : Road) (cs : List Carrier) → Faultless 
 unfolding faulty
 faultless-holds r road cs h =
     rw (any-or (unlawful road) (pastEnd road) cs, h .lawful, h .before-end, h .distinct, h .safe) refl
+
+-- on another surface they break no rule but that of safety by its row
+pub surfaced-faultless : {r : Row} (code : ℕ) (road : Road) (cs : List Carrier) → Faultless r road cs → (q : Row) → laneSafe q cs ≡ true → Faultless q (onSurface code road) cs
+unfolding unlawful pastEnd
+surfaced-faultless code road cs h q safe = record { lawful = h .lawful; before-end = h .before-end; distinct = h .distinct; safe = safe }
 
 module _ {r : Row} (road : Road) where
   pub fit-at : (cs : List Carrier) (i : ℕ) (d : Carrier) → Faultless r road cs → i < length cs → Fit road (getD cs i d)

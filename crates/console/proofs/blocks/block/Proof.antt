@@ -100,6 +100,12 @@ run-show-requires c κs = search needs
 enum-told-6 : tie.Need-enum-told-6
 enum-told-6 c = search needs
 
+surface-block-requires : tie.Need-surface-block-requires
+surface-block-requires c κs = begun (c .before .before .before .before)
+
+enum-told-7 : tie.Need-enum-told-7
+enum-told-7 c = search needs
+
 refused-requires-2 : tie.Need-refused-requires-2
 refused-requires-2 c κs = search needs
 
@@ -155,12 +161,21 @@ same-length-7 : tie.Need-same-length-7
 same-length-7 c = search needs
 
 returns-7 : tie.Need-returns-7
-unfolding afterLine
 returns-7 c =
+    let told = c .before .before in
+    let arm = told .before .before .before in
+    read-as (block-is (arm .before .before) (arm .enum-told6 .given .1)) (told .surface-block .ensures)
+
+same-length-8 : tie.Need-same-length-8
+same-length-8 c = search needs
+
+returns-8 : tie.Need-returns-8
+unfolding afterLine
+returns-8 c =
     let told = c .before .before in
     let arm = told .before .before in
     let k = arm .before .before in
-    refuses-8 (block-is k (arm .enum-told6 .given .1)) (start (k .before .before) .args .l .now) (told .refused2 .ensures)
+    refuses-8 (block-is k (arm .enum-told7 .given .1)) (start (k .before .before) .args .l .now) (told .refused2 .ensures)
 
 pub block-spec : {M : Type 1} → statement M
 block-spec =
@@ -186,6 +201,8 @@ block-spec =
     enum-told-5
     run-show-requires
     enum-told-6
+    surface-block-requires
+    enum-told-7
     refused-requires-2
     same-length-2
     returns-2
@@ -198,4 +215,6 @@ block-spec =
     same-length-6
     returns-6
     same-length-7
-    returns-7)
+    returns-7
+    same-length-8
+    returns-8)

@@ -1,0 +1,56 @@
+-- A change of surface along a history: by the book it is accepted exactly where the lane is safe under the new row, and it serves until the next.
+use mathlib.Core.Path.{_≡_, refl, sym, ap, _∙_, subst}
+use mathlib.Core.Bool.{Bool, true, false}
+use mathlib.Core.List.{List, _∷_, _++_}
+use Prim.Native.Nat.{ℕ, suc, _≤_, _<_}
+use lib.ListN.{length}
+use Rattle.lane.specs.State.{State}
+use Rattle.lane.specs.Layout.{Words, stateOf}
+use Rattle.lane.specs.Rules.{broken}
+use Rattle.lane.specs.Call.{Call, surface-call, Answer, callNo}
+use Rattle.lane.proofs.CallLaws.{answer-number}
+use Rattle.lane.proofs.SurfaceLaws.{surface-in-force, surface-answers}
+use Rattle.history.specs.Book.{Book, begun}
+use Rattle.history.specs.Claims.{SafeOn}
+use Rattle.history.specs.History.{Event, bookOn, laneAfter, Ran, Chain, chain-next, SurfaceExactly, SurfaceChanges}
+use Rattle.history.proofs.Agreement.{empty-agrees}
+use Rattle.history.proofs.CycleRuns.{bookOf}
+use Rattle.history.proofs.History.{ran-gives, agrees-after}
+use Rattle.history.proofs.Rows.{parts, chain-surface-serves}
+
+-- what is said of one change that answers so
+abbrev Exactly : Book → (code number : ℕ) → Type 0
+Exactly b code number =
+    (((i : ℕ) → suc i < length (b .carriers) → SafeOn b code i) → number ≡ 0)
+    × ((i : ℕ) → suc i < length (b .carriers) → ¬ (SafeOn b code i) → number ≡ 34)
+    × (code ≡ b .road .surface → number ≡ 0)
+
+exactly : (s : State) (code : ℕ) → ¬ (callNo (surface-call code) s ≡ 21) → code ≤ 7 → Exactly (bookOf s) code (callNo (surface-call code) s)
+exactly s code passes known = by-rules (broken s) refl
+  where
+    by-rules : (t : Bool) → broken s ≡ t → Exactly (bookOf s) code (callNo (surface-call code) s)
+    by-rules true e = absurd (passes (surface-answers s code .0 e))
+    by-rules false e =
+        let told = surface-answers s code in
+        (told .2 e known, told .3 e known, λ same. ap (λ (n : ℕ). callNo (surface-call n) s) same ∙ surface-in-force s e)
+
+chain-surface-exactly : {l d : Words} {es : List Event} → stateOf l .count ≡ 0 → Chain l es d → SurfaceExactly l es
+chain-surface-exactly {l} {d} none c before change later code is is-change passes known =
+    let two = parts before (subst (λ (es : List Event). Chain l es d) is c) in
+    subst (λ (b : Book). Exactly b code (change .answer .number)) (agrees-after (begun l) (empty-agrees l none) (two .0) .same) (at-head (two .1))
+  where
+    s : State
+    s = stateOf (laneAfter l before)
+
+    at-head : {rest : List Event} → Chain (laneAfter l before) (change ∷ rest) d → Exactly (bookOf s) code (change .answer .number)
+    at-head (chain-next g w r) =
+        let number : change .answer .number ≡ callNo (surface-call code) s =
+        ap (λ (a : Answer). a .number) (g .answer) ∙ answer-number (change .call) s ∙ ap (λ (x : Call). callNo x s) is-change in
+        subst (Exactly (bookOf s) code) (sym number) (exactly s code (λ z. passes (number ∙ z)) known)
+
+pub chain-surface-changes : {l d : Words} {es : List Event} → stateOf l .count ≡ 0 → Chain l es d → SurfaceChanges l es
+chain-surface-changes none c = (chain-surface-exactly none c, chain-surface-serves c)
+
+-- in every list of calls from an empty lane
+pub surface-changes : (l : Words) → stateOf l .count ≡ 0 → (es : List Event) (d : Words) → Ran l es d → SurfaceChanges l es
+surface-changes l none es d r = chain-surface-changes none (ran-gives r)

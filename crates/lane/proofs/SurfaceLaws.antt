@@ -1,0 +1,57 @@
+-- A change of surface in numbers: which one is accepted, and with which number another is turned away.
+use mathlib.Core.Path.{_≡_, refl, _∙_}
+use mathlib.Core.Bool.{Bool, true, false, cond}
+use Prim.Native.Nat.{ℕ, suc, _+_, _≤_, _<_}
+use borrow.Author.Tests.{lt-ltb, le-ltb}
+use lib.ListN.{length, getD}
+use Rattle.headway.specs.Stopping.{stoppingDistance}
+use Rattle.headway.proofs.Laws.{safe-says, safe-holds}
+use Rattle.lane.specs.declared.Row.{Row}
+use Rattle.lane.specs.Surface.{rowOf}
+use Rattle.lane.specs.State.{State}
+use Rattle.lane.specs.Safety.{safeWith, laneSafe}
+use Rattle.lane.specs.Rules.{broken}
+use Rattle.lane.specs.Calls.{none, surfaceNo}
+use Rattle.lane.specs.Call.{surface-call, callNo}
+use Rattle.lane.proofs.checks.Soundness.{sound}
+use Rattle.lane.proofs.calls.Order.{safe-neighbours, safe-behind-leader}
+
+-- the code already in force is accepted on every lane that 21 passes
+pub surface-in-force : (s : State) → broken s ≡ false → callNo (surface-call (s .road .surface)) s ≡ 0
+unfolding surfaceNo
+surface-in-force s e = let h = sound s e in rw (e, le-ltb 7 (s .road .surface) (h .road .surface), h .carriers .safe) refl
+
+-- "The change is accepted if the whole lane is safe under the new row and refused otherwise.": with b of the one behind and B of the one ahead, by
+-- the tail of that one; "34 the lane wouldn't be safe, after 21 and 1"
+pub surface-answers : (s : State) (code : ℕ)
+    → (broken s ≡ true → callNo (surface-call code) s ≡ 21)
+    × (broken s ≡ false → 7 < code → callNo (surface-call code) s ≡ 1)
+    × (broken s ≡ false → code ≤ 7
+    → ((i : ℕ) → suc i < length (s .carriers)
+    → (getD (s .carriers) (suc i) none .position + getD (s .carriers) i none .length < getD (s .carriers) i none .position)
+    × (getD (s .carriers) (suc i) none .position + getD (s .carriers) i none .length + stoppingDistance (rowOf (s .tables .inForce) code .guaranteed) (getD (s .carriers) (suc i) none .speed)
+    < getD (s .carriers) i none .position + stoppingDistance (rowOf (s .tables .inForce) code .hardest) (getD (s .carriers) i none .speed)))
+    → callNo (surface-call code) s ≡ 0)
+    × (broken s ≡ false → code ≤ 7
+    → (i : ℕ) → suc i < length (s .carriers)
+    → ¬ ((getD (s .carriers) (suc i) none .position + getD (s .carriers) i none .length < getD (s .carriers) i none .position)
+    × (getD (s .carriers) (suc i) none .position + getD (s .carriers) i none .length + stoppingDistance (rowOf (s .tables .inForce) code .guaranteed) (getD (s .carriers) (suc i) none .speed)
+    < getD (s .carriers) i none .position + stoppingDistance (rowOf (s .tables .inForce) code .hardest) (getD (s .carriers) i none .speed)))
+    → callNo (surface-call code) s ≡ 34)
+unfolding surfaceNo safeWith
+surface-answers s code = (
+  λ e. rw e refl,
+  λ e h. rw (e, lt-ltb 7 code h) refl,
+  λ e known h. by-safety e known ∙ rw (safe-neighbours r (s .carriers) λ i p. safe-holds _ _ _ _ _ _ (record { below = h i p .0; stops-below = h i p .1 })) refl,
+  λ e known i p h. by-safety e known ∙ unsafe (λ q. let t = safe-says _ _ _ _ _ _ (safe-behind-leader r (s .carriers) q i p) in h (t .below, t .stops-below)) _ refl,
+)
+  where
+    r : Row
+    r = rowOf (s .tables .inForce) code
+
+    by-safety : broken s ≡ false → code ≤ 7 → callNo (surface-call code) s ≡ cond (laneSafe r (s .carriers)) 0 34
+    by-safety e known = rw (e, le-ltb 7 code known) refl
+
+    unsafe : ¬ (laneSafe r (s .carriers) ≡ true) → (t : Bool) → laneSafe r (s .carriers) ≡ t → _≡_ {A = ℕ} (cond t 0 34) 34
+    unsafe h true q = absurd (h q)
+    unsafe h false q = refl
