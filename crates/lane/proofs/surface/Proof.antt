@@ -14,9 +14,9 @@ surface-refusal-requires c κs = search needs
 
 returns : tie.Need-returns
 returns c =
-    let k = c .before in
-    let a = k .before .before .args in
-    (gives-refused (surface-call (a .code)) (a .l .now) (k .surface-refusal .result) (k .surface-refusal .ensures) (c .if1 .taken), λ z. absurd (c .if1 .taken z))
+    let a = c .before .before .before .args in
+    let told = c .before .surface-refusal in
+    (gives-refused (surface-call (a .code)) (a .l .now) (told .result) (told .ensures) (c .if1 .taken), λ z. absurd (c .if1 .taken z))
 
 put-code-requires : tie.Need-put-code-requires
 put-code-requires c κs = search needs
