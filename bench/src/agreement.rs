@@ -57,6 +57,7 @@ fn by_library(call: Call, sample: &mut Sample) -> (u32, Vec<u64>) {
             let answer = library::lane_text(sample);
             (answer.no, vec![answer.length as u64])
         }
+        Call::Surface => (library::surface(sample), vec![]),
         Call::Load => (library::load(sample), vec![]),
     }
 }
@@ -75,6 +76,7 @@ fn by_reference(call: Call, sample: &mut Sample) -> Result<Vec<u64>, Refusal> {
             [reading.position, reading.speed].map(f64::to_bits).to_vec()
         }
         Call::LaneText => vec![reference::lane_text(sample)? as u64],
+        Call::Surface => reference::surface(sample).map(|()| vec![])?,
         Call::Load => reference::load(sample).map(|()| vec![])?,
     })
 }

@@ -11,17 +11,19 @@ pub enum Call {
     Cycle,
     Read,
     LaneText,
+    Surface,
     Load,
 }
 
 impl Call {
-    pub const ALL: [Call; 7] = [
+    pub const ALL: [Call; 8] = [
         Call::Start,
         Call::Enter,
         Call::Leave,
         Call::Cycle,
         Call::Read,
         Call::LaneText,
+        Call::Surface,
         Call::Load,
     ];
 
@@ -33,6 +35,7 @@ impl Call {
             Call::Cycle => "cycle",
             Call::Read => "read",
             Call::LaneText => "lane text",
+            Call::Surface => "surface",
             Call::Load => "load",
         }
     }

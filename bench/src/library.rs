@@ -5,13 +5,14 @@ use crate::sample::{carrier, Sample};
 use rondavitse::binding::*;
 
 /// The functions of a call by their symbols.
-pub const SYMBOLS: [&str; 7] = [
+pub const SYMBOLS: [&str; 8] = [
     "rondavitse_start",
     "rondavitse_enter",
     "rondavitse_leave",
     "rondavitse_cycle",
     "rondavitse_read",
     "rondavitse_lane_text",
+    "rondavitse_surface",
     "rondavitse_load",
 ];
 
@@ -23,6 +24,7 @@ pub fn run(call: Call) -> fn(&mut Sample) {
         Call::Cycle => |sample| consume(cycle(sample)),
         Call::Read => |sample| consume(read(sample)),
         Call::LaneText => |sample| consume(lane_text(sample)),
+        Call::Surface => |sample| consume(surface(sample)),
         Call::Load => |sample| consume(load(sample)),
     }
 }
@@ -55,6 +57,10 @@ pub fn read(sample: &mut Sample) -> ReadOut {
 pub fn lane_text(sample: &mut Sample) -> Listed {
     let text = &mut sample.text;
     unsafe { rondavitse_lane_text(&sample.lanes.library, text.as_mut_ptr(), text.len()) }
+}
+
+pub fn surface(sample: &mut Sample) -> u32 {
+    unsafe { rondavitse_surface(&mut sample.lanes.library, sample.surface) }
 }
 
 pub fn load(sample: &mut Sample) -> u32 {

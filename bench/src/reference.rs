@@ -6,13 +6,14 @@ use crate::sample::Sample;
 use lane_reference::{Carrier, Cycled, FastLane, Reading, Refusal, Road, Supervisor};
 
 /// The functions of a call by their symbols.
-pub const SYMBOLS: [&str; 7] = [
+pub const SYMBOLS: [&str; 8] = [
     "reference_start",
     "reference_enter",
     "reference_leave",
     "reference_cycle",
     "reference_read",
     "reference_lane_text",
+    "reference_surface",
     "reference_load",
 ];
 
@@ -24,6 +25,7 @@ pub fn run(call: Call) -> fn(&mut Sample) {
         Call::Cycle => |sample| consume(cycle(sample)),
         Call::Read => |sample| consume(read(sample)),
         Call::LaneText => |sample| consume(lane_text(sample)),
+        Call::Surface => |sample| consume(surface(sample)),
         Call::Load => |sample| consume(load(sample)),
     }
 }
@@ -54,6 +56,10 @@ pub fn read(sample: &mut Sample) -> Result<Reading, Refusal> {
 
 pub fn lane_text(sample: &mut Sample) -> Result<usize, Refusal> {
     reference_lane_text(&sample.lanes.reference, &mut sample.text)
+}
+
+pub fn surface(sample: &mut Sample) -> Result<(), Refusal> {
+    reference_surface(&mut sample.lanes.reference, sample.surface)
 }
 
 pub fn load(sample: &mut Sample) -> Result<(), Refusal> {
@@ -99,6 +105,12 @@ fn reference_read(lane: &FastLane, number: u64) -> Result<Reading, Refusal> {
 #[inline(never)]
 fn reference_lane_text(lane: &FastLane, text: &mut [u8]) -> Result<usize, Refusal> {
     lane.lane_text(text)
+}
+
+#[no_mangle]
+#[inline(never)]
+fn reference_surface(lane: &mut FastLane, surface: u64) -> Result<(), Refusal> {
+    lane.surface(surface)
 }
 
 #[no_mangle]

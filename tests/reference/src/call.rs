@@ -29,6 +29,10 @@ pub enum Call {
     LaneText {
         room: usize,
     },
+    /// Another surface code for the running lane.
+    Surface {
+        surface: u64,
+    },
     /// The rows for the next start, as table text.
     Load {
         text: Vec<u8>,
@@ -45,5 +49,6 @@ pub enum Answer {
     Cycled(Cycled),
     Read(Reading),
     LaneText(Vec<u8>),
+    SurfaceChanged,
     Loaded,
 }

@@ -86,6 +86,7 @@ fn answered(answer: Answer) -> Vec<u8> {
         )
         .into_bytes(),
         Answer::LaneText(text) => [b"ok=show\n".as_slice(), &text].concat(),
+        Answer::SurfaceChanged => b"ok=surface\n".to_vec(),
         Answer::Read(_) | Answer::Loaded => unreachable!("no call text reads or loads"),
     }
 }

@@ -9,15 +9,18 @@ mod histories;
 mod lanes;
 mod lengths;
 mod programs;
+mod surfaces;
 mod table_texts;
 mod tables;
 mod wide;
 mod wishes;
 
 pub use breaks::{break_line, LineBreak, Part, TextBreak, LINE_BREAKS, TEXT_BREAKS};
-pub use calls::{call, Weights, CYCLES, EVEN, LOADS};
+pub use calls::{call, Weights, CYCLES, EVEN, LOADS, RAIN};
 pub use histories::{calls_on, calls_on_empty, history, History};
-pub use lanes::{empty_lane, lane_with, never_started_lane, sound_lane, unsound_lane};
+pub use lanes::{
+    empty_lane, lane_for_change, lane_with, never_started_lane, sound_lane, unsound_lane,
+};
 pub use programs::{
     call_text, garbled_program, longest_program, malformed_program, oversize_program, program,
 };

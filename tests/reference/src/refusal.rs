@@ -32,6 +32,8 @@ pub enum Refusal {
     TableFaulty = 31,
     CarriersPresent = 32,
     LengthTooLarge = 33,
+    /// Of a change of surface: the lane would not be safe on the new one.
+    SurfaceUnsafe = 34,
 }
 
 impl Refusal {

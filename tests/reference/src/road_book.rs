@@ -63,6 +63,7 @@ impl RoadBook {
                 let table = text::table(text);
                 self.tables.for_next_start = table.map_err(|_| "no table was loaded")?;
             }
+            Call::Surface { surface } => self.road.surface = surface,
             Call::Read { .. } | Call::LaneText { .. } => (),
         }
         Ok(())

@@ -42,6 +42,9 @@ pub fn block(text: &[u8]) -> Result<(Call, &[u8]), Refusal> {
         b"show" => Call::LaneText {
             room: LONGEST_LANE_TEXT,
         },
+        b"surface" => Call::Surface {
+            surface: lines.number::<u32>("surface")?,
+        },
         _ => return Err(Refusal::TextMalformed),
     };
     Ok((call, lines.rest))

@@ -4,7 +4,7 @@ mod common;
 
 use common::{carrier, example_lane, lane_of, long_carrier, wishes};
 use lane_reference::random::{
-    call, history, sound_lane, unsound_lane, widened, History, Random, CYCLES, EVEN, LOADS,
+    call, history, sound_lane, unsound_lane, widened, History, Random, CYCLES, EVEN, LOADS, RAIN,
 };
 use lane_reference::road_book::{check_history, Checker, Drive};
 use lane_reference::stopping::{Fast, Summed};
@@ -39,7 +39,7 @@ fn summed_stopping_gives_the_same_answers() {
 fn histories_reach_every_refusal_and_every_answer() {
     let (mut refusals, mut sorts) = (BTreeSet::new(), BTreeSet::new());
     let (mut full, mut gone, mut replaced, mut last_bit) = (0, 0, 0, 0);
-    for seed in 0..500 {
+    for seed in 0..1_000 {
         let History { first, calls } = history(&mut Random::new(seed), 130);
         let mut lane = FastLane(first);
         for call in &calls {
@@ -56,9 +56,9 @@ fn histories_reach_every_refusal_and_every_answer() {
             full += u32::from(lane.0.count == 64);
         }
     }
-    let every = (1..=7).chain([9]).chain(21..=28).chain(31..=33).collect();
+    let every = (1..=7).chain([9]).chain(21..=28).chain(31..=34).collect();
     assert_eq!(refusals, every);
-    assert_eq!(sorts.len(), 6, "{sorts:?}");
+    assert_eq!(sorts.len(), 7, "{sorts:?}");
     assert!(full > 1_000 && gone > 1_000 && replaced > 10_000 && last_bit > 100);
 }
 
@@ -72,7 +72,7 @@ fn lanes_handed_in_are_judged() {
         let unsound = unsound_lane(&mut random);
         assert!(unsound.sound_row::<Fast>().is_err(), "{unsound:?}");
         for lane in [sound, unsound] {
-            let weights = random.pick(&[EVEN, LOADS]);
+            let weights = random.pick(&[EVEN, LOADS, RAIN]);
             let call = call(&mut random, &lane, &weights);
             let mut after = FastLane(lane);
             let answer = after.call(&call);
@@ -107,7 +107,7 @@ fn exempt(lane: &Lane, call: &Call) -> bool {
 #[test]
 fn histories_go_on_with_loaded_rows() {
     let (mut cycles, mut replaced, mut full) = (0, 0, 0);
-    for seed in 0..300 {
+    for seed in 0..600 {
         let History { first, calls } = history(&mut Random::new(seed), 130);
         let (mut lane, mut loaded, mut in_force) = (FastLane(first), false, false);
         for call in &calls {
@@ -140,6 +140,7 @@ fn arguments_above_their_width_are_refused() {
             Call::Start { .. } => &[1, 2, 3],
             Call::Enter { .. } => &[4, 5, 6, 33],
             Call::Leave { .. } | Call::Read { .. } => &[4],
+            Call::Surface { .. } => &[1],
             Call::Cycle { .. } | Call::LaneText { .. } | Call::Load { .. } => continue,
         };
         let number = answer.expect_err("a refusal").number();

@@ -1,28 +1,11 @@
 //! How often random histories meet the edges that lengths bring.
 
-use lane_reference::headway::{front_at_rest, tail_at_rest};
+mod common;
+
+use common::edges::{add, gaps, number, Edges, Met, Outcome};
 use lane_reference::random::{history, sound_lane, unsound_lane, History, Random};
 use lane_reference::stopping::Fast;
-use lane_reference::{
-    Answer, Call, Carrier, FastLane, Lane, Refusal, Row, Supervisor, Wish, PLACES,
-};
-use std::collections::BTreeMap;
-
-type Met = BTreeMap<&'static str, u32>;
-type Outcome = Result<Answer, Refusal>;
-
-/// How far the follower's front is below the leader's tail, now and at rest: 0
-/// is level.
-fn gaps(row: &Row, follower: Carrier, leader: Carrier) -> [i64; 2] {
-    let follower_rest = front_at_rest::<Fast>(follower, row.guaranteed_braking);
-    let leader_rest = tail_at_rest::<Fast>(leader, row.hardest_braking);
-    [
-        leader.tail() - follower.front(),
-        leader_rest - follower_rest,
-    ]
-}
-
-type Edges = Vec<(&'static str, bool)>;
+use lane_reference::{Answer, Call, Carrier, FastLane, Lane, Row, Supervisor, Wish, PLACES};
 
 /// Entries that are accepted, by the length alone.
 fn accepted_lengths(lane: &Lane, newcomer: Carrier) -> Edges {
@@ -162,13 +145,9 @@ fn past_end_call(call: &Call, outcome: &Outcome) -> &'static str {
         (Call::Read { .. }, Err(_)) => "front past the end: read refused",
         (Call::LaneText { .. }, Ok(_)) => "front past the end: lane text accepted",
         (Call::LaneText { .. }, Err(_)) => "front past the end: lane text refused",
+        (Call::Surface { .. }, Ok(_)) => "front past the end: surface accepted",
+        (Call::Surface { .. }, Err(_)) => "front past the end: surface refused",
         (Call::Load { .. }, _) => "front past the end: load",
-    }
-}
-
-fn add(met: &mut Met, edges: Edges) {
-    for (edge, there) in edges {
-        *met.entry(edge).or_insert(0) += u32::from(there);
     }
 }
 
@@ -176,7 +155,7 @@ fn edges(before: &Lane, call: &Call, outcome: &Outcome) -> Edges {
     let Ok(row) = before.sound_row::<Fast>() else {
         return Vec::new();
     };
-    let no = outcome.as_ref().map_or_else(|no| no.number(), |_| 0);
+    let no = number(outcome);
     let mut edges = match (call, outcome) {
         (Call::Enter(newcomer), _) => entry_edges(before, &row, *newcomer, no),
         (Call::Cycle { wishes, .. }, Ok(Answer::Cycled(cycled))) => {

@@ -58,6 +58,7 @@ fn a_lane_never_started_refuses_all_else_with_21() {
     refused(&lane, 21, cycle(9, &[]));
     refused(&lane, 21, Call::Read { number: 0 });
     refused(&lane, 21, Call::LaneText { room: 0 });
+    refused(&lane, 21, Call::Surface { surface: 8 });
 }
 
 fn changed(change: impl Fn(&mut Lane)) -> Lane {
@@ -101,6 +102,7 @@ fn a_lane_that_breaks_a_rule_is_21() {
         refused(&lane, 21, cycle(9, &[]));
         refused(&lane, 21, Call::Read { number: 0 });
         refused(&lane, 21, Call::LaneText { room: 0 });
+        refused(&lane, 21, Call::Surface { surface: 8 });
         let mut started = lane;
         assert_eq!(started.call(&start(0, 1, 1)), Ok(Answer::Started));
     }
@@ -232,6 +234,19 @@ fn cycle_checks_in_order() {
         .is_ok());
     assert_eq!(lane.cycle, u64::MAX);
     refused(&lane, 28, cycle(2, &[]));
+}
+
+#[test]
+fn surface_checks_in_order() {
+    // Carrier 8 would rest at 764 on surface 0, but at 4,796 on surface 7.
+    let lane = example_lane(1_000);
+    for surface in [8, u32::MAX.into(), 1 << 32, 7 + (1 << 32), u64::MAX] {
+        refused(&lane, 1, Call::Surface { surface });
+    }
+    refused(&lane, 34, Call::Surface { surface: 7 });
+    let far = example_lane(4_797);
+    refused(&example_lane(4_796), 34, Call::Surface { surface: 7 });
+    assert_eq!(far.clone().surface(7), Ok(()));
 }
 
 /// Asserts that the cycle is refused with `number` and leaves the lane as it was.

@@ -72,6 +72,8 @@ fn every_call_has_its_answer() {
         ),
         ("call=leave\ncar=7\n", "ok=leave\n"),
         ("call=leave\ncar=7\n", "no=24\n"),
+        ("call=surface\nsurface=7\n", "ok=surface\n"),
+        ("call=surface\nsurface=8\n", "no=1\n"),
         (
             "call=cycle\ncars=0\n",
             "ok=cycle\nover=0000000000000000\ngone=0\n",
@@ -192,6 +194,55 @@ fn a_length_has_32_bits_and_its_place_after_the_speed() {
     }
     let twice = enter("speed=0\nlength=0\nlength=0\n");
     assert_eq!(twice, "ok=start\nok=enter\nplace=0\nno=8\n");
+}
+
+#[test]
+fn a_change_of_surface_has_one_line_of_32_bits() {
+    let change = |lines: &str| output(&format!("{START}call=surface\n{lines}"));
+    for (surface, answer) in [
+        ("0", "ok=surface\n"),
+        ("7", "ok=surface\n"),
+        ("8", "no=1\n"),
+        ("4294967295", "no=1\n"),
+        ("4294967296", "no=8\n"),
+        ("4294967297", "no=8\n"),
+        ("18446744073709551616", "no=8\n"),
+        ("00", "no=8\n"),
+        ("01", "no=8\n"),
+        ("-0", "no=8\n"),
+        ("-1", "no=8\n"),
+        ("", "no=8\n"),
+    ] {
+        let changed = change(&format!("surface={surface}\n"));
+        assert_eq!(changed, format!("ok=start\n{answer}"), "{surface}");
+    }
+    for lines in ["", "surface=1", "code=1\n", "call=show\n", "\nsurface=1\n"] {
+        assert_eq!(change(lines), "ok=start\nno=8\n", "{lines:?}");
+    }
+    for surplus in ["surface=1\n", "end=1\n", "cycle=0\n", "\n"] {
+        let changed = change(&format!("surface=1\n{surplus}"));
+        assert_eq!(changed, "ok=start\nok=surface\nno=8\n", "{surplus:?}");
+    }
+    assert_eq!(output("surface=1\ncall=surface\n"), "no=8\n");
+    assert_eq!(
+        output("call=surface\nsurface=8\ncall=show\n"),
+        "no=21\nno=21\n"
+    );
+}
+
+/// Carrier 8 would rest at 764 on surface 0, but at 956 on surface 5, where A is 12
+/// and b is 16.
+#[test]
+fn rain_on_the_example() {
+    let rained = |position: u32| {
+        let rain = "call=surface\nsurface=5\ncall=cycle";
+        let input = EXAMPLE.replace("at=1000", &format!("at={position}"));
+        output(&input.replace("call=cycle", rain))
+    };
+    assert!(rained(956).contains("place=1\nno=34\nok=cycle\n"));
+    assert!(rained(957).contains("place=1\nok=surface\nok=cycle\nover=0000000000000002\n"));
+    assert!(rained(957).ends_with("car=8\nat=812\nspeed=48\nlength=0\n"));
+    assert!(rained(2_000).ends_with("car=8\nat=840\nspeed=76\nlength=0\n"));
 }
 
 #[test]

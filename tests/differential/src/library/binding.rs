@@ -2,7 +2,7 @@
 //! lane is looked at as plain words, row by row.
 
 /// The interface that this file is for.
-pub const VERSION: u32 = 4;
+pub const VERSION: u32 = 5;
 
 /// A lane as it is lent.
 pub type Words = [[u64; 8]; 89];
@@ -83,6 +83,7 @@ extern "C" {
     ) -> Cycled;
     pub fn rondavitse_read(lane: *const Words, number: u64) -> ReadOut;
     pub fn rondavitse_lane_text(lane: *const Words, out: *mut u8, out_len: usize) -> Listed;
+    pub fn rondavitse_surface(lane: *mut Words, surface: u64) -> u32;
     pub fn rondavitse_load(lane: *mut Words, text: *const u8, text_length: usize) -> u32;
     pub fn rondavitse_step(
         lane: *mut Words,

@@ -58,14 +58,21 @@ fn compared(before: &Words, call: &HostCall, outcome: &Outcome) -> Result<(), St
     }
 }
 
-/// After a refusal, and after a call that only reads, every word is as before.
+/// After a refusal, and after a call that only reads, every word is as before;
+/// after a change of surface, every word but that code.
 fn kept(before: &Words, call: &HostCall, outcome: &Outcome, after: &Words) -> Result<(), String> {
-    if (outcome.no == 0 && !call.only_reads()) || before == after {
-        Ok(())
-    } else {
-        let rows = (0..before.len()).filter(|&row| before[row] != after[row]);
-        Err(format!("rows changed: {:?}", rows.collect::<Vec<_>>()))
+    let expected = match *call {
+        HostCall::Plain(Call::Surface { surface }) if outcome.no == 0 => {
+            words::on_surface(before, surface)
+        }
+        _ if outcome.no == 0 && !call.only_reads() => return Ok(()),
+        _ => *before,
+    };
+    if expected == *after {
+        return Ok(());
     }
+    let rows = (0..before.len()).filter(|&row| expected[row] != after[row]);
+    Err(format!("rows changed: {:?}", rows.collect::<Vec<_>>()))
 }
 
 /// Demand 3, from the product's own answers.

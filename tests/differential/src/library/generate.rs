@@ -7,7 +7,7 @@ use super::host_call::HostCall;
 use super::words;
 use lane_reference::random::{
     calls_on, calls_on_empty, history, never_started_lane, sound_lane, unsound_lane, widened,
-    History, Random, EVEN, FLOAT_EDGES, LOADS,
+    History, Random, EVEN, FLOAT_EDGES, LOADS, RAIN,
 };
 use lane_reference::{Call, Lane, Wish, PLACES};
 
@@ -41,14 +41,15 @@ pub fn case(random: &mut Random) -> Case {
     Case { first, calls }
 }
 
-/// A lane and calls on it, all sorts of them or loads and starts above all.
+/// A lane and calls on it, all sorts of them, or loads and starts above all, or
+/// changes of surface.
 fn on_lane(
     random: &mut Random,
     lane: fn(&mut Random) -> Lane,
     length: usize,
 ) -> (Words, Vec<Call>) {
     let first = lane(random);
-    let plan = vec![random.pick(&[EVEN, EVEN, LOADS]); length];
+    let plan = vec![random.pick(&[EVEN, EVEN, LOADS, RAIN]); length];
     let calls = calls_on(random, first, &plan);
     (words::of_lane(random, &first), calls)
 }

@@ -72,6 +72,7 @@ fn plain(lane: &mut Words, call: &Call) -> (u32, Vec<u64>) {
                 vec![reading.position.to_bits(), reading.speed.to_bits()],
             )
         }
+        Call::Surface { surface } => (unsafe { rondavitse_surface(lane, surface) }, vec![]),
         Call::LaneText { .. } | Call::Load { .. } => unreachable!("these are lent a buffer"),
         Call::Cycle { .. } => unreachable!("a host's cycle is no plain call"),
     }

@@ -42,6 +42,7 @@ fn print_call(call: &HostCall) -> String {
         HostCall::Plain(Call::Leave { number }) => format!("leave {number}\n"),
         HostCall::Plain(Call::Read { number }) => format!("read {number}\n"),
         HostCall::Plain(Call::LaneText { room }) => format!("lane_text {room}\n"),
+        HostCall::Plain(Call::Surface { surface }) => format!("surface {surface}\n"),
         HostCall::Plain(Call::Load { text }) => format!("load{}\n", joined(text)),
         HostCall::Plain(Call::Cycle { .. }) => unreachable!("a host's cycle is no plain call"),
         HostCall::Cycle {
@@ -135,6 +136,9 @@ fn parse_plain(word: &str, words: &mut SplitWhitespace) -> Option<Call> {
         },
         "lane_text" => Call::LaneText {
             room: figure(words)?,
+        },
+        "surface" => Call::Surface {
+            surface: figure(words)?,
         },
         "load" => Call::Load {
             text: figures(words)?,

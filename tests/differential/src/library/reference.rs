@@ -29,7 +29,7 @@ fn answered(lane: &Lane, call: &Call) -> Outcome {
 
 fn values(answer: &Answer) -> Vec<u64> {
     match answer {
-        Answer::Started | Answer::Left | Answer::Loaded => vec![],
+        Answer::Started | Answer::Left | Answer::SurfaceChanged | Answer::Loaded => vec![],
         Answer::Entered(place) => vec![*place as u64],
         Answer::Read(reading) => vec![reading.position.to_bits(), reading.speed.to_bits()],
         Answer::Cycled(_) => unreachable!("a host's cycle is no plain call"),
@@ -40,7 +40,7 @@ fn values(answer: &Answer) -> Vec<u64> {
 /// The values of a refusal, all of them zero.
 fn no_values(call: &Call) -> &'static [u64] {
     match call {
-        Call::Start { .. } | Call::Leave { .. } | Call::Load { .. } => &[],
+        Call::Start { .. } | Call::Leave { .. } | Call::Surface { .. } | Call::Load { .. } => &[],
         Call::Enter { .. } | Call::LaneText { .. } => &[0],
         Call::Read { .. } => &[0; 2],
         Call::Cycle { .. } => &[0; 3],

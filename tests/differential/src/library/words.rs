@@ -12,7 +12,8 @@ const FOR_NEXT_START: usize = 9;
 const FREE: usize = 17;
 const RECORDS: usize = 25;
 
-/// The word of the first row with the carriers present.
+/// The words of the first row with the surface code and the carriers present.
+const SURFACE: usize = 1;
 const COUNT: usize = 5;
 
 /// How many words of the first row count, of a surface row and of a record.
@@ -119,6 +120,13 @@ pub fn scramble(words: &mut Words, seed: u64) {
             *word = random.pick(&[0, 1, any, any]);
         }
     }
+}
+
+/// The same words with another surface code.
+pub fn on_surface(words: &Words, surface: u64) -> Words {
+    let mut changed = *words;
+    changed[0][SURFACE] = surface;
+    changed
 }
 
 /// Puts a number into the record right behind the last carrier present, if

@@ -129,6 +129,18 @@ pub trait Supervisor {
         Ok(length)
     }
 
+    /// Puts the lane on another surface, of the rows in force, if the whole of it
+    /// is safe there; nothing else changes.
+    fn surface(&mut self, surface: u64) -> Result<(), Refusal> {
+        let lane = self.lane_mut();
+        lane.sound_row::<Self::Stopping>()?;
+        let row = lane.tables.in_force.row(surface);
+        let row = row.ok_or(Refusal::SurfaceUnknown)?;
+        Refusal::SurfaceUnsafe.when(!lane.is_safe::<Self::Stopping>(&row))?;
+        lane.road.surface = surface;
+        Ok(())
+    }
+
     /// Takes the rows for the next start from a table text. A lane never started
     /// counts as empty and sound, whatever it holds.
     fn load(&mut self, text: &[u8]) -> Result<(), Refusal> {
@@ -173,6 +185,7 @@ pub trait Supervisor {
                 buffer.truncate(length);
                 Ok(Answer::LaneText(buffer))
             }
+            Call::Surface { surface } => self.surface(surface).map(|()| Answer::SurfaceChanged),
             Call::Load { ref text } => self.load(text).map(|()| Answer::Loaded),
         }
     }

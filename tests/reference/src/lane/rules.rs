@@ -67,14 +67,17 @@ impl Lane {
         }
     }
 
-    /// Each carrier is lawful, has a number of its own and is safe behind the
-    /// next one ahead, which was found lawful before.
+    /// Each carrier is lawful and has a number of its own, and the lane is safe.
     fn is_sound<S: Stopping>(&self, row: &Row) -> bool {
         let (carriers, mut met) = (self.present(), Met::NONE);
-        (0..carriers.len()).all(|place| {
-            carriers[place].is_lawful(&self.road)
-                && (place == 0 || safe_behind::<S>(row, carriers[place], carriers[place - 1]))
-                && !met.again(carriers, place)
-        })
+        let lawful = (0..carriers.len())
+            .all(|place| carriers[place].is_lawful(&self.road) && !met.again(carriers, place));
+        lawful && self.is_safe::<S>(row)
+    }
+
+    /// Whether each carrier is safe behind the next one ahead, all of them lawful.
+    pub(super) fn is_safe<S: Stopping>(&self, row: &Row) -> bool {
+        let mut pairs = self.present().windows(2);
+        pairs.all(|pair| safe_behind::<S>(row, pair[1], pair[0]))
     }
 }

@@ -22,7 +22,7 @@ use Part::{Key, Line, Number, ValueOf};
 pub type LineBreak = (Part, &'static str);
 
 /// The breaks of one line.
-pub const LINE_BREAKS: [LineBreak; 61] = [
+pub const LINE_BREAKS: [LineBreak; 63] = [
     (Line, ""),
     (Line, "\n#"),
     (Line, "#\n"),
@@ -71,6 +71,8 @@ pub const LINE_BREAKS: [LineBreak; 61] = [
     (ValueOf("call"), "read"),
     (ValueOf("call"), "Show"),
     (ValueOf("call"), "shows"),
+    (ValueOf("call"), "Surface"),
+    (ValueOf("call"), "surfaces"),
     (ValueOf("want"), ""),
     (ValueOf("want"), "Hold"),
     (ValueOf("want"), "hold:"),

@@ -1,7 +1,8 @@
 //! The next call of a history, fitted to the lane it meets.
 
-use super::entries::{closing_up, entry, known_number};
+use super::entries::{closing_up, closing_up_for_change, entry, known_number};
 use super::programs::carrier_lines;
+use super::surfaces::surface;
 use super::table_texts::load_text;
 use super::wishes::wishes;
 use super::Random;
@@ -9,34 +10,42 @@ use crate::call::Call;
 use crate::lane::{Lane, LONGEST_LANE_TEXT};
 use crate::road::Road;
 
-/// How likely each sort of call is: closing up at the back, any other entry,
-/// cycle, leave, read, lane text, good start, any start, load.
-pub type Weights = [u64; 9];
+/// How likely each sort of call is: closing up at the back, the same for another
+/// row too, any other entry, cycle, leave, read, lane text, good start, any start,
+/// change of surface, load.
+pub type Weights = [u64; 11];
 
 /// All sorts of calls.
-pub const EVEN: Weights = [10, 25, 30, 12, 8, 8, 1, 2, 4];
+pub const EVEN: Weights = [10, 5, 25, 30, 12, 8, 8, 1, 2, 6, 4];
 
 /// Cycles alone.
-pub const CYCLES: Weights = [0, 0, 1, 0, 0, 0, 0, 0, 0];
+pub const CYCLES: Weights = [0, 0, 0, 1, 0, 0, 0, 0, 0, 0, 0];
 
 /// Loads before and after a start, and what shows that they do no more.
-pub const LOADS: Weights = [1, 0, 3, 1, 1, 1, 3, 1, 12];
+pub const LOADS: Weights = [1, 0, 0, 3, 1, 1, 1, 3, 1, 2, 12];
+
+/// Changes of surface, and what shows which row is in force after them.
+pub const RAIN: Weights = [0, 8, 8, 24, 6, 2, 2, 0, 0, 24, 1];
 
 /// A call on `lane`, which may be any lane.
 pub fn call(random: &mut Random, lane: &Lane, weights: &Weights) -> Call {
     match random.weighted(weights) {
         0 => Call::Enter(closing_up(random, lane)),
-        1 => Call::Enter(entry(random, lane)),
-        2 => cycle(random, lane),
-        3 => Call::Leave {
+        1 => Call::Enter(closing_up_for_change(random, lane)),
+        2 => Call::Enter(entry(random, lane)),
+        3 => cycle(random, lane),
+        4 => Call::Leave {
             number: known_number(random, lane),
         },
-        4 => Call::Read {
+        5 => Call::Read {
             number: known_number(random, lane),
         },
-        5 => lane_text(random, lane),
-        6 => good_start(random),
-        7 => any_start(random),
+        6 => lane_text(random, lane),
+        7 => good_start(random),
+        8 => any_start(random),
+        9 => Call::Surface {
+            surface: surface(random, lane),
+        },
         _ => Call::Load {
             text: load_text(random),
         },

@@ -9,8 +9,12 @@ use crate::surface::{Row, RATES};
 /// The row of a lane's surface, or a sound one near it; any where the code
 /// has none.
 pub fn row_of(lane: &Lane) -> Row {
-    let row = lane.tables.in_force.row(lane.road.surface);
-    let row = row.unwrap_or_default();
+    row_at(lane, lane.road.surface)
+}
+
+/// As [`row_of`], of any code: the row is one of those in force.
+pub fn row_at(lane: &Lane, surface: u64) -> Row {
+    let row = lane.tables.in_force.row(surface).unwrap_or_default();
     let (least, most) = (*RATES.start(), *RATES.end());
     let hardest = row.hardest_braking.clamp(least, most);
     Row {
@@ -47,6 +51,15 @@ pub fn nearest_tail_ahead(row: &Row, follower: Carrier, speed: u64) -> i128 {
     let follower_stop = stop(row.guaranteed_braking, follower.speed);
     let lag = follower_stop - stop(row.hardest_braking, speed);
     i128::from(follower.position) + 1 + lag.max(0)
+}
+
+/// How far each carrier, front to back from the second on, could move up and be
+/// safe behind the next one ahead: 0 is just safe, −1 is unsafe by one.
+pub fn slacks<'a>(row: &'a Row, lane: &'a Lane) -> impl Iterator<Item = i128> + 'a {
+    lane.present().windows(2).map(|pair| {
+        let nearest = nearest_behind(row, pair[0], pair[1].speed);
+        nearest - i128::from(pair[1].position)
+    })
 }
 
 /// The wish with which a carrier's tail is just at the lane's end after a cycle,

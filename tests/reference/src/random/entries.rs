@@ -3,25 +3,33 @@
 
 use super::edges::{narrow, nearest_behind, nearest_tail_ahead, row_of, tail};
 use super::lengths::{edge_length, length, sound_length, to_length};
+use super::surfaces::rows_for_change;
 use super::Random;
 use crate::carrier::{Carrier, LONGEST_CARRIER};
 use crate::lane::{Lane, NUMBERS, PLACES};
+use crate::surface::Row;
 
 /// How far an entry is from the nearest safe position: mostly not at all.
 const OFFSETS: [i128; 8] = [0, 0, 0, 0, 1, 1, -1, 2];
 
-/// An entry of any sort, refused ones among them.
+/// An entry of any sort, refused ones among them. Some are fitted to other rows
+/// as well, under which the lane may be put next.
 pub fn entry(random: &mut Random, lane: &Lane) -> Carrier {
     let mut newcomer = Carrier {
         number: number(random, lane),
         position: narrow(random.below(narrow(lane.road.end) + 2)),
-        speed: speed(random, lane),
+        speed: speed(random, lane, &row_of(lane)),
         length: length(random),
     };
+    let rows = if random.chance(30) {
+        rows_for_change(lane)
+    } else {
+        vec![row_of(lane)]
+    };
     match random.below(12) {
-        0..=3 => newcomer.position = behind(random, lane, newcomer.speed),
-        4..=6 => ahead(random, lane, &mut newcomer),
-        7..=8 => fill_gap(random, lane, &mut newcomer),
+        0..=3 => newcomer.position = behind(random, lane, &rows, newcomer.speed),
+        4..=6 => ahead(random, lane, &rows, &mut newcomer),
+        7..=8 => fill_gap(random, lane, &rows, &mut newcomer),
         9 => newcomer.position = near_end(random, lane),
         10 => newcomer.position = level(random, lane),
         _ => (),
@@ -36,15 +44,65 @@ pub fn entry(random: &mut Random, lane: &Lane) -> Carrier {
 /// full or has no room left.
 pub fn closing_up(random: &mut Random, lane: &Lane) -> Carrier {
     let number = unused_number(random, lane);
-    let mut speed = speed(random, lane).min(lane.road.limit);
+    let row = row_of(lane);
+    let speed = speed(random, lane, &row).min(lane.road.limit);
+    let nearest = |rear, speed| nearest_behind(&row, rear, speed);
+    at_the_back(random, lane, number, speed, nearest)
+}
+
+/// As [`closing_up`], but under other rows too the newcomer is just safe, or now
+/// and then unsafe by one.
+pub fn closing_up_for_change(random: &mut Random, lane: &Lane) -> Carrier {
+    let number = unused_number(random, lane);
+    let rows = rows_for_change(lane);
+    // Rarer, the more carriers there are, so that whole long lanes are safe too.
+    let present = lane.present().len().max(1);
+    let past = i128::from(random.index(2 * present) == 0);
+    let nearest = |rear, speed| {
+        let others = nearest_behind_under(&rows[1..], rear, speed);
+        nearest_behind(&rows[0], rear, speed).min(others + past)
+    };
+    let speed = telling_speed(random, lane, &rows);
+    at_the_back(random, lane, number, speed, nearest)
+}
+
+/// Of a few speeds one with which the other rows ask for more room behind the last
+/// carrier than the first, if it is among them. Where they brake better, remainders
+/// alone may bring that about, at speeds of a few times the rates.
+fn telling_speed(random: &mut Random, lane: &Lane, rows: &[Row]) -> u64 {
+    let mut tried = 0;
+    for _ in 0..8 {
+        let row = random.pick(rows);
+        let low = random.below(4 * row.hardest_braking + 1);
+        let any = speed(random, lane, &row);
+        tried = random.pick(&[any, low]).min(lane.road.limit);
+        let tells = |&rear: &Carrier| {
+            let others = nearest_behind_under(&rows[1..], rear, tried);
+            others < nearest_behind(&rows[0], rear, tried)
+        };
+        if lane.present().last().is_some_and(tells) {
+            break;
+        }
+    }
+    tried
+}
+
+/// A carrier at the position that is `nearest` behind the last one with its
+/// speed, or a little back; one that stands where that would be before the start.
+fn at_the_back(
+    random: &mut Random,
+    lane: &Lane,
+    number: u64,
+    mut speed: u64,
+    nearest: impl Fn(Carrier, u64) -> i128,
+) -> Carrier {
     let position = match lane.present().last() {
         Some(&rear) => {
-            let row = row_of(lane);
-            if nearest_behind(&row, rear, speed) < 0 {
+            if nearest(rear, speed) < 0 {
                 speed = 0;
             }
             let slack = random.pick(&[0, 0, 0, 1, 500]);
-            to_position(nearest_behind(&row, rear, speed) - slack)
+            to_position(nearest(rear, speed) - slack)
         }
         None => near_end(random, lane).min(lane.road.end.saturating_sub(1)),
     };
@@ -80,11 +138,25 @@ fn neighbour(random: &mut Random, lane: &Lane, usual: usize) -> Option<Carrier> 
     present.get(place).copied()
 }
 
-fn behind(random: &mut Random, lane: &Lane, speed: u64) -> u64 {
+/// The foremost position behind `leader` that is safe under all rows.
+fn nearest_behind_under(rows: &[Row], leader: Carrier, speed: u64) -> i128 {
+    let positions = rows.iter().map(|row| nearest_behind(row, leader, speed));
+    positions.fold(i128::MAX, i128::min)
+}
+
+/// The rearmost position of a tail ahead of `follower` that is safe under all.
+fn nearest_tail_ahead_under(rows: &[Row], follower: Carrier, speed: u64) -> i128 {
+    let tails = rows
+        .iter()
+        .map(|row| nearest_tail_ahead(row, follower, speed));
+    tails.fold(i128::MIN, i128::max)
+}
+
+fn behind(random: &mut Random, lane: &Lane, rows: &[Row], speed: u64) -> u64 {
     let rear = lane.present().len().saturating_sub(1);
     match neighbour(random, lane, rear) {
         Some(leader) => {
-            let nearest = nearest_behind(&row_of(lane), leader, speed);
+            let nearest = nearest_behind_under(rows, leader, speed);
             to_position(nearest + random.pick(&OFFSETS))
         }
         None => near_end(random, lane),
@@ -93,12 +165,12 @@ fn behind(random: &mut Random, lane: &Lane, speed: u64) -> u64 {
 
 /// Puts the newcomer's tail ahead of a carrier; where its front would be past
 /// the end, it is mostly made shorter.
-fn ahead(random: &mut Random, lane: &Lane, newcomer: &mut Carrier) {
+fn ahead(random: &mut Random, lane: &Lane, rows: &[Row], newcomer: &mut Carrier) {
     let Some(follower) = neighbour(random, lane, 0) else {
         newcomer.position = near_end(random, lane);
         return;
     };
-    let nearest = nearest_tail_ahead(&row_of(lane), follower, newcomer.speed);
+    let nearest = nearest_tail_ahead_under(rows, follower, newcomer.speed);
     let tail = nearest - random.pick(&OFFSETS);
     let room = i128::from(lane.road.end) - 1 - tail;
     if room >= 0 && random.chance(80) {
@@ -109,16 +181,16 @@ fn ahead(random: &mut Random, lane: &Lane, newcomer: &mut Carrier) {
 
 /// Makes the newcomer reach from the nearest position behind one carrier to the
 /// nearest ahead of the next, or a little further.
-fn fill_gap(random: &mut Random, lane: &Lane, newcomer: &mut Carrier) {
-    let (row, present) = (row_of(lane), lane.present());
+fn fill_gap(random: &mut Random, lane: &Lane, rows: &[Row], newcomer: &mut Carrier) {
+    let present = lane.present();
     let place = random.index(present.len().max(1));
     let foremost = || i128::from(lane.road.end) - 1;
     let leader = place.checked_sub(1).map(|ahead| present[ahead]);
     let front = leader.map_or_else(foremost, |leader| {
-        nearest_behind(&row, leader, newcomer.speed)
+        nearest_behind_under(rows, leader, newcomer.speed)
     });
     let rearmost_tail = present.get(place).map_or(0, |&follower| {
-        nearest_tail_ahead(&row, follower, newcomer.speed)
+        nearest_tail_ahead_under(rows, follower, newcomer.speed)
     });
     newcomer.position = to_position(front);
     newcomer.length = to_length(front - rearmost_tail + random.pick(&OFFSETS));
@@ -144,9 +216,8 @@ fn near_end(random: &mut Random, lane: &Lane) -> u64 {
     random.pick(&[last, last, last.saturating_sub(1), end, past, within, close])
 }
 
-/// Speeds about the multiples of the braking rates and about the limit.
-pub fn speed(random: &mut Random, lane: &Lane) -> u64 {
-    let row = row_of(lane);
+/// Speeds about the multiples of a row's braking rates and about the limit.
+pub fn speed(random: &mut Random, lane: &Lane, row: &Row) -> u64 {
     let (b, hardest) = (row.guaranteed_braking, row.hardest_braking);
     let limit = narrow(lane.road.limit);
     let times = 1 + random.below(9);

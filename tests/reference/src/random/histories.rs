@@ -1,7 +1,7 @@
 //! Whole histories: tables are loaded, lanes fill up, drive, and meet all sorts
 //! of calls.
 
-use super::calls::{call, Weights, EVEN, LOADS};
+use super::calls::{call, Weights, EVEN, LOADS, RAIN};
 use super::lanes::empty_lane;
 use super::Random;
 use crate::call::Call;
@@ -15,9 +15,21 @@ pub struct History {
     pub calls: Vec<Call>,
 }
 
-const START: Weights = [0, 0, 0, 0, 0, 0, 1, 0, 0];
-const FILL: Weights = [90, 4, 2, 2, 1, 1, 0, 0, 1];
-const DRIVE: Weights = [5, 8, 75, 4, 4, 4, 0, 0, 2];
+const START: Weights = [0, 0, 0, 0, 0, 0, 0, 1, 0, 0, 0];
+const LOAD: Weights = [0, 0, 0, 1, 0, 0, 0, 0, 0, 1, 8];
+const FILL: Weights = [90, 0, 4, 2, 2, 1, 1, 0, 0, 1, 1];
+const FILL_FOR_CHANGE: Weights = [0, 94, 0, 0, 1, 1, 1, 0, 0, 2, 1];
+const CHANGE: Weights = [0, 25, 12, 0, 15, 1, 1, 0, 0, 45, 1];
+const DRIVE: Weights = [5, 0, 8, 75, 4, 4, 4, 0, 0, 4, 2];
+
+/// How a lane is filled, and how many turns of changes follow.
+const FILLS: [(Weights, usize); 5] = [
+    (FILL, 0),
+    (FILL, 0),
+    (FILL, 5),
+    (FILL_FOR_CHANGE, 10),
+    (FILL_FOR_CHANGE, 30),
+];
 
 /// A history of so many calls.
 pub fn history(random: &mut Random, calls: usize) -> History {
@@ -61,10 +73,14 @@ pub fn calls_on(random: &mut Random, first: Lane, plan: &[Weights]) -> Vec<Call>
 fn plan(random: &mut Random, calls: usize) -> Vec<Weights> {
     let mut plan = Vec::new();
     while plan.len() < calls {
+        let (fill, changes) = random.pick(&FILLS);
         let shift = [
             (LOADS, random.pick(&[0, 1, 3, 8])),
             (START, usize::from(random.chance(92))),
-            (FILL, random.pick(&[0, 2, 5, 20, 80, 80])),
+            (LOAD, random.pick(&[0, 0, 1])),
+            (fill, random.pick(&[0, 2, 5, 20, 80, 80])),
+            (CHANGE, changes),
+            (RAIN, random.pick(&[0, 0, 5, 20])),
             (DRIVE, random.pick(&[5, 30, 60])),
             (EVEN, random.pick(&[0, 10, 30, 130])),
         ];

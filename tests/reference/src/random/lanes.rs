@@ -1,9 +1,10 @@
 //! Lanes as a host may hand them in.
 
 use super::calls::{any_cycle, any_road};
-use super::edges::{nearest_behind, row_of, tail};
-use super::entries::{closing_up, speed};
+use super::edges::{nearest_behind, row_of, slacks, tail};
+use super::entries::{closing_up, closing_up_for_change, speed};
 use super::lengths::sound_length;
+use super::surfaces::unsafe_surface;
 use super::tables::{any_tables, sound_tables, unsound_table};
 use super::wide::{wide, wide_length, wide_number};
 use super::Random;
@@ -72,14 +73,47 @@ fn leftovers(random: &mut Random) -> [Carrier; PLACES] {
 }
 
 /// A started, sound lane: a tight platoon of up to 64, the foremost now and then
-/// with its front past the end.
+/// with its front past the end; half of them are tight under another row too.
 pub fn sound_lane(random: &mut Random) -> Lane {
     let tables = sound_tables(random);
-    lane_with(random, tables)
+    if random.chance(50) {
+        lane_with(random, tables)
+    } else {
+        lane_for_change(random, tables)
+    }
 }
 
-/// As [`sound_lane`], with the caller's tables, which are sound.
+/// As [`sound_lane`], with the caller's tables, which are sound; tight under the
+/// row in force alone.
 pub fn lane_with(random: &mut Random, tables: Tables) -> Lane {
+    platoon(random, tables, closing_up)
+}
+
+/// As [`lane_with`], but often just safe or unsafe by one under another row.
+pub fn lane_for_change(random: &mut Random, tables: Tables) -> Lane {
+    let mut lane = platoon(random, tables, closing_up_for_change);
+    if random.chance(50) {
+        move_up(random, &mut lane);
+    }
+    lane
+}
+
+/// Moves one of the carriers that can be moved up by one, often the first or the
+/// last of them; the lane stays sound.
+fn move_up(random: &mut Random, lane: &mut Lane) {
+    let row = row_of(lane);
+    let places = (1..).zip(slacks(&row, lane));
+    let free: Vec<usize> = places
+        .filter_map(|(place, slack)| (slack > 0).then_some(place))
+        .collect();
+    if !free.is_empty() {
+        let any = random.index(free.len());
+        let chosen = random.pick(&[0, free.len() - 1, any]);
+        lane.carriers[free[chosen]].position += 1;
+    }
+}
+
+fn platoon(random: &mut Random, tables: Tables, next: fn(&mut Random, &Lane) -> Carrier) -> Lane {
     let mut lane = Lane {
         started: true,
         road: any_road(random),
@@ -91,7 +125,7 @@ pub fn lane_with(random: &mut Random, tables: Tables) -> Lane {
     let any = random.index(PLACES + 1);
     let wanted = random.pick(&[0, 1, 2, PLACES, any]);
     while lane.present().len() < wanted && has_room_behind(&lane) {
-        let mut newcomer = closing_up(random, &lane);
+        let mut newcomer = next(random, &lane);
         if lane.count == 0 && random.chance(30) {
             move_past_end(random, &lane.road, &mut newcomer);
         }
@@ -135,7 +169,7 @@ fn overstep(random: &mut Random, lane: &mut Lane) {
     let follower = 1 + random.index(lane.present().len() - 1);
     let ahead = random.index(follower);
     let most = u32::MAX.into();
-    match random.below(15) {
+    match random.below(17) {
         0 => lane.started = false,
         1 => lane.road.surface = random.pick(&[8, 9, most]),
         2 => lane.road.end = random.pick(&[0, (1 << 31) + 1, most]),
@@ -150,6 +184,7 @@ fn overstep(random: &mut Random, lane: &mut Lane) {
         11 => lane.carriers[follower].position = lane.carriers[ahead].position,
         12 => level_with_tail(lane, follower, ahead),
         13 => too_long(lane, follower),
+        14..=15 => too_wet(random, lane, follower),
         _ => too_near(random, lane, follower),
     }
 }
@@ -184,6 +219,15 @@ fn too_long(lane: &mut Lane, follower: usize) {
     leader.length += slack as u64 + 1;
 }
 
+/// Puts the lane on a surface on which it is not safe; where there is none, moves
+/// the follower too near.
+fn too_wet(random: &mut Random, lane: &mut Lane, follower: usize) {
+    match unsafe_surface(random, lane) {
+        Some(code) => lane.road.surface = code,
+        None => too_near(random, lane, follower),
+    }
+}
+
 /// Puts bits above its width into one field that counts.
 fn widen(random: &mut Random, lane: &mut Lane) {
     let place = random.index(lane.present().len());
@@ -208,8 +252,9 @@ fn widen(random: &mut Random, lane: &mut Lane) {
 /// Moves the follower one past the nearest position that is safe.
 fn too_near(random: &mut Random, lane: &mut Lane, follower: usize) {
     let leader = lane.carriers[follower - 1];
-    let speed = speed(random, lane).min(lane.road.limit);
-    let nearest = nearest_behind(&row_of(lane), leader, speed);
+    let row = row_of(lane);
+    let speed = speed(random, lane, &row).min(lane.road.limit);
+    let nearest = nearest_behind(&row, leader, speed);
     // Where this speed finds no room at all, level with the leader will do.
     let position = u64::try_from(nearest + 1).unwrap_or(leader.position);
     lane.carriers[follower].position = position;

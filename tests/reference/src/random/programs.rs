@@ -24,6 +24,7 @@ pub fn call_text(call: &Call) -> Option<String> {
             Some(format!("call=cycle\ncars={count}\n{wants}"))
         }
         Call::LaneText { .. } => Some("call=show\n".to_string()),
+        Call::Surface { surface } => Some(format!("call=surface\nsurface={surface}\n")),
         Call::Read { .. } | Call::Load { .. } => None,
     }
 }

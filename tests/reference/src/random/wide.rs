@@ -4,16 +4,20 @@
 use super::Random;
 use crate::call::Call;
 
+/// The word with a bit above so many set, or with all.
+fn above(random: &mut Random, width: u64, word: u64) -> u64 {
+    let bit = 1 << (width + random.below(64 - width));
+    random.pick(&[word | bit, word | bit, bit, u64::MAX])
+}
+
 /// The word with a bit above 32 set, or with all.
 pub fn wide(random: &mut Random, word: u64) -> u64 {
-    let bit = 1 << (32 + random.below(32));
-    random.pick(&[word | bit, word | bit, bit, u64::MAX])
+    above(random, 32, word)
 }
 
 /// The number with a bit above 16 set, or with all.
 pub fn wide_number(random: &mut Random, number: u64) -> u64 {
-    let bit = 1 << (16 + random.below(48));
-    random.pick(&[number | bit, number | bit, bit, u64::MAX])
+    above(random, 16, number)
 }
 
 /// The length with a bit above 16 set, or one that is less than nothing where a
@@ -26,8 +30,12 @@ pub fn wide_length(random: &mut Random, length: u64) -> u64 {
 
 /// The figure of a row with a bit above 8 set, or with all.
 pub fn wide_figure(random: &mut Random, figure: u64) -> u64 {
-    let bit = 1 << (8 + random.below(56));
-    random.pick(&[figure | bit, figure | bit, bit, u64::MAX])
+    above(random, 8, figure)
+}
+
+/// The surface code with a bit above 3 set, or with all.
+fn wide_code(random: &mut Random, code: u64) -> u64 {
+    above(random, 3, code)
 }
 
 /// The call with one argument above the width that it has; a cycle, a lane text
@@ -48,6 +56,7 @@ pub fn widened(random: &mut Random, call: &Call) -> Call {
             _ => carrier.length = wide_length(random, carrier.length),
         },
         Call::Leave { number } | Call::Read { number } => *number = wide_number(random, *number),
+        Call::Surface { surface } => *surface = wide_code(random, *surface),
         Call::Cycle { .. } | Call::LaneText { .. } | Call::Load { .. } => (),
     }
     call

@@ -1,6 +1,8 @@
 //! Short ways to lanes, wishes and texts.
 #![allow(dead_code)]
 
+pub mod edges;
+
 use lane_reference::random::table_text;
 use lane_reference::{Call, Carrier, Lane, Refusal, Road, Supervisor, Table, Wish, PLACES};
 
@@ -60,12 +62,13 @@ pub fn wishes(first: &[Wish]) -> [Wish; PLACES] {
 }
 
 /// The calls that look at the whole lane: a start does not.
-pub fn calls_that_look() -> [Call; 6] {
+pub fn calls_that_look() -> [Call; 7] {
     [
         Call::Enter(carrier(0, 0, 0)),
         Call::Leave { number: 0 },
         Call::Read { number: 0 },
         Call::LaneText { room: 0 },
+        Call::Surface { surface: 8 },
         Call::Load { text: Vec::new() },
         Call::Cycle {
             count: 9,
