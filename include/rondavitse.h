@@ -32,7 +32,7 @@ extern "C" {
 
 /* The number of this interface, another one whenever a struct, a number, a constant or a function changes, a function in its form or in what it
  * answers. A host asks the library for its own before the first call: where they differ, header and library do not belong together. */
-#define RONDAVITSE_VERSION 4
+#define RONDAVITSE_VERSION 5
 uint32_t rondavitse_version(void);
 
 #define RONDAVITSE_LAST_SURFACE 7
@@ -73,7 +73,8 @@ enum rondavitse_refusal {
     RONDAVITSE_CYCLES_EXHAUSTED = 28,
     RONDAVITSE_TABLE_UNSOUND = 31,
     RONDAVITSE_LANE_OCCUPIED = 32,
-    RONDAVITSE_LENGTH_TOO_LARGE = 33
+    RONDAVITSE_LENGTH_TOO_LARGE = 33,
+    RONDAVITSE_SURFACE_UNSAFE = 34
 };
 
 static inline const char *rondavitse_words(uint32_t no) {
@@ -103,6 +104,7 @@ static inline const char *rondavitse_words(uint32_t no) {
     case RONDAVITSE_TABLE_UNSOUND: return "malformed table text, or an unsound row";
     case RONDAVITSE_LANE_OCCUPIED: return "carriers are on the lane";
     case RONDAVITSE_LENGTH_TOO_LARGE: return "length above 65,535";
+    case RONDAVITSE_SURFACE_UNSAFE: return "the lane would not be safe on that surface";
     default: return "unknown refusal";
     }
 }
@@ -145,7 +147,7 @@ typedef struct rondavitse_record {
 
 /* The first `count` records are the carriers, front to back. An unsound row in either set gets 21, but for what is said at load and start; a
  * started lane with one among `next_rows` can do neither, and has to be made empty. No call's answer depends on a word called free, nor on
- * the records past the carriers; a call that is accepted may leave anything there. */
+ * the records past the carriers; a call that is accepted may leave anything there, but for rondavitse_surface. */
 typedef struct rondavitse_lane {
     uint64_t started; /* 1; any other word counts as never started */
     uint64_t surface;
@@ -205,6 +207,12 @@ uint32_t rondavitse_load(rondavitse_lane *lane, const uint8_t *text, size_t text
 /* Takes the road and the first cycle number, puts `next_rows` in force, which stay the next ones too, and empties the lane, whatever it held;
  * gives `no`. Checks in order: 21, for an unsound row among `next_rows` and nothing else; 1, 2, 3. */
 uint32_t rondavitse_start(rondavitse_lane *lane, rondavitse_road road, uint64_t first);
+
+/* Changes the surface between cycles, as when it rains; gives `no`. The word `surface` becomes the code, and every other word of the lane, free
+ * ones and idle records included, stays as it was. The whole lane has to be safe under the code's row among `rows`, by which trimming, braking,
+ * wishes, entries and 21 then go. The code in force is accepted on every lane that 21 passes, and so is every code where no carrier behind the
+ * foremost moves: a host that gets 34 lets them slow down and asks again. Checks: 21, 1, 34. */
+uint32_t rondavitse_surface(rondavitse_lane *lane, uint64_t surface);
 
 /* The carrier goes in at the place found, if it and the one behind it are safe there, each behind the tail of the one ahead.
  * Checks: 21, 4, 5 for its front, 6, 33, 22, 23, 25, 26. */

@@ -106,6 +106,15 @@ static uint64_t close_behind(const rondavitse_lane *lane, size_t place) {
     return lane->records[place].position - lane->records[place].length - 1;
 }
 
+/* One that moves 100 units behind the tail of one that stands: safe on every row of the tests, and not on one that guarantees 1. */
+static inline rondavitse_lane lane_near(void) {
+    rondavitse_lane lane = lane_of(2);
+    lane.records[0].speed = 0;
+    lane.records[1].position = close_behind(&lane, 0) - 100;
+    lane.records[1].speed = 30;
+    return lane;
+}
+
 /* Writes what the lane text should be; gives its length. */
 static inline size_t wanted_text(char *text, const rondavitse_lane *lane) {
     size_t length = (size_t)sprintf(text, "cars=%" PRIu64 "\n", lane->count);

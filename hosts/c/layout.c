@@ -194,6 +194,38 @@ static void check_rows_in_force(void) {
     }
 }
 
+/* One word changes, and what the free words and the records past the carriers hold stays there; of a block that is not said. */
+static void check_surface(size_t count) {
+    const char answer[] = "ok=surface\n";
+    for (uint64_t code = 0; code < SURFACES; code++) {
+        uint8_t out[RONDAVITSE_ANSWER_BUFFER];
+        char block[64];
+        rondavitse_lane by_call = lane_of(count), by_block = by_call, wanted = by_call;
+        wanted.surface = code;
+        same("surface", "no", rondavitse_surface(&by_call, code), 0);
+        same_words("surface", &by_call, &wanted);
+        const int length = sprintf(block, "call=surface\nsurface=%" PRIu64 "\n", code);
+        const rondavitse_stepped got = rondavitse_step(&by_block, (const uint8_t *)block, (size_t)length, 0, out, sizeof out);
+        same("surface by a block", "written", got.written, strlen(answer));
+        same("surface by a block", "bytes", (uint64_t)memcmp(out, answer, strlen(answer)), 0);
+        same_state("surface by a block", &by_block, &wanted);
+    }
+}
+
+/* The lane is safe on the row before and on the code's row in force, and on no other row of either set. */
+static void check_row_of_surface(void) {
+    for (size_t code = 0; code < SURFACES; code++) {
+        rondavitse_lane lane = lane_near();
+        for (size_t other = 0; other < SURFACES; other++) {
+            lane.next_rows[other].guaranteed = 1;
+            if (other != code && other != ROAD.surface) {
+                lane.rows[other].guaranteed = 1;
+            }
+        }
+        same("row of a surface", "no", rondavitse_surface(&lane, code), 0);
+    }
+}
+
 static void check_lane_text(void) {
     const rondavitse_lane lane = lane_of(MOST), kept = lane;
     uint8_t text[RONDAVITSE_LONGEST_TEXT];
@@ -289,6 +321,10 @@ int main(void) {
     check_read();
     check_cycle();
     check_rows_in_force();
+    check_surface(0);
+    check_surface(MOST / 2);
+    check_surface(MOST);
+    check_row_of_surface();
     check_lane_text();
     check_longest_text();
     check_step();

@@ -1,5 +1,5 @@
 /* A worked host: five minutes of a lane with an entry at its start, a side road, an exit and an end that carriers run out at, on surface
- * figures of the terminal's own. It prints a summary that is the same in every run. */
+ * figures of the terminal's own; for a while it rains. It prints a summary that is the same in every run. */
 #include "rondavitse.h"
 
 #include <math.h>
@@ -11,11 +11,14 @@ enum {
     METRE = 2048,           /* positions count 1/2048 m */
     METRE_PER_SECOND = 128, /* speeds count 1/128 m/s */
     CYCLES = 2400,          /* of 1/8 s */
-    DRY = 0,                /* the surface */
+    DRY = 0,                /* surface codes */
+    WET = 4,
+    RAIN_BEGINS = 900,      /* cycles */
+    RAIN_ENDS = 1700,
     LANE_END = 400 * METRE,
     SPEED_LIMIT = 20 * METRE_PER_SECOND,
     SIDE_ROAD = 120 * METRE,
-    LAST_REFUSAL = RONDAVITSE_LENGTH_TOO_LARGE
+    LAST_REFUSAL = RONDAVITSE_SURFACE_UNSAFE
 };
 
 /* What the terminal has measured of its concrete, a row for each surface code. */
@@ -34,7 +37,8 @@ typedef struct {
     rondavitse_lane lane; /* changed by the supervisor alone */
     uint64_t next_number;
     unsigned admitted, replaced, left, gone;
-    unsigned refused[LAST_REFUSAL + 1]; /* by the refusal's number */
+    unsigned refused[LAST_REFUSAL + 1]; /* entries, by the refusal's number */
+    unsigned changed, postponed;        /* changes of surface accepted, and refused with 34 */
     double closest;                     /* the least distance to the tail ahead, m */
     double farthest;                    /* where a front has been, m */
     double fastest;                     /* m/s */
@@ -69,6 +73,29 @@ static void start(host *h) {
     expect_accepted("start", rondavitse_start(&h->lane, road, 0));
 }
 
+static uint64_t surface_wanted(int cycle) {
+    return cycle >= RAIN_BEGINS && cycle < RAIN_ENDS ? WET : DRY;
+}
+
+/* Until a change is accepted nobody is let in, and all but the foremost slow down: once they stand, no surface is refused. */
+static bool awaits_surface(const host *h, int cycle) {
+    return h->lane.surface != surface_wanted(cycle);
+}
+
+/* A change that is refused is asked for again in the next cycle. */
+static void try_surface(host *h, int cycle) {
+    if (!awaits_surface(h, cycle)) {
+        return;
+    }
+    const uint32_t no = rondavitse_surface(&h->lane, surface_wanted(cycle));
+    if (no == RONDAVITSE_SURFACE_UNSAFE) {
+        h->postponed++;
+        return;
+    }
+    expect_accepted("surface", no);
+    h->changed++;
+}
+
 /* Every third carrier takes a container of 20 feet, the others take one of 40. */
 static uint64_t length_of(uint64_t number) {
     return (number % 3 == 0 ? 8 : 14) * METRE;
@@ -92,6 +119,9 @@ static void try_entry(host *h, uint64_t position, uint64_t speed) {
 }
 
 static void let_carriers_in(host *h, int cycle) {
+    if (awaits_surface(h, cycle)) {
+        return;
+    }
     if (cycle % 16 == 0) {
         try_entry(h, 0, 14 * METRE_PER_SECOND);
     }
@@ -121,10 +151,13 @@ static wish hold(void) {
     return (wish){RONDAVITSE_HOLD, 0};
 }
 
-/* By the carrier's number; but now and then the foremost brakes for six seconds. */
-static wish wish_of(const rondavitse_record *carrier, size_t place, int cycle) {
+/* By the carrier's number; but now and then the foremost brakes for six seconds, and those behind it slow down where they are to. */
+static wish wish_of(const rondavitse_record *carrier, size_t place, int cycle, bool slower) {
     if (place == 0 && cycle % 600 >= 552) {
         return acceleration(-2.5f);
+    }
+    if (place > 0 && slower) {
+        return acceleration(-1.5f);
     }
     switch (carrier->number % 4) {
     case 0:
@@ -142,8 +175,9 @@ static void drive(host *h, int cycle) {
     uint8_t sorts[RONDAVITSE_MOST_CARRIERS];
     uint32_t values[RONDAVITSE_MOST_CARRIERS];
     const size_t count = h->lane.count;
+    const bool slower = awaits_surface(h, cycle);
     for (size_t place = 0; place < count; place++) {
-        const wish w = wish_of(&h->lane.records[place], place, cycle);
+        const wish w = wish_of(&h->lane.records[place], place, cycle, slower);
         sorts[place] = w.sort;
         values[place] = w.value;
     }
@@ -211,6 +245,9 @@ static void print_summary(const host *h) {
             printf("entries refused with %u (%s): %u\n", no, rondavitse_words(no), h->refused[no]);
         }
     }
+    printf("changes of surface: %u\n", h->changed);
+    printf("changes of surface refused with %d (%s): %u\n", RONDAVITSE_SURFACE_UNSAFE, rondavitse_words(RONDAVITSE_SURFACE_UNSAFE),
+           h->postponed);
     printf("wishes replaced: %u\n", h->replaced);
     printf("carriers out by the exit: %u\n", h->left);
     printf("carriers gone at the lane end: %u\n", h->gone);
@@ -227,6 +264,7 @@ int main(void) {
     expect_version();
     start(&h);
     for (int cycle = 0; cycle < CYCLES; cycle++) {
+        try_surface(&h, cycle);
         let_carriers_in(&h, cycle);
         drive(&h, cycle);
         watch(&h);

@@ -39,21 +39,37 @@ static void check_all_units(void) {
     }
 }
 
+static void check_block(rondavitse_lane *lane, const char *block, const char *answer) {
+    uint8_t out[RONDAVITSE_ANSWER_BUFFER];
+    same(block, "written", rondavitse_step(lane, (const uint8_t *)block, strlen(block), 0, out, sizeof out).written, strlen(answer));
+    same(block, "answer", (uint64_t)memcmp(out, answer, strlen(answer)), 0);
+}
+
 /* An entry with this length gives `no`, by the call and by a block. */
 static void check_length(uint64_t length, uint32_t no, const char *answer) {
-    uint8_t out[RONDAVITSE_ANSWER_BUFFER];
     char block[128];
     rondavitse_lane by_call = dry_lane(), by_block = by_call;
-    const int bytes = sprintf(block, "call=enter\ncar=1\nat=0\nspeed=0\nlength=%" PRIu64 "\n", length);
+    sprintf(block, "call=enter\ncar=1\nat=0\nspeed=0\nlength=%" PRIu64 "\n", length);
     same("length", "no", rondavitse_enter(&by_call, (rondavitse_carrier){.number = 1, .length = length}).no, no);
-    same("length", "written", rondavitse_step(&by_block, (const uint8_t *)block, (size_t)bytes, 0, out, sizeof out).written, strlen(answer));
-    same("length", "answer", (uint64_t)memcmp(out, answer, strlen(answer)), 0);
+    check_block(&by_block, block, answer);
     same("length", "carriers", by_call.count, no == RONDAVITSE_ACCEPTED);
     same("length", "carriers by a block", by_block.count, no == RONDAVITSE_ACCEPTED);
     if (no == RONDAVITSE_ACCEPTED) {
         same("length", "in the lane", by_call.records[0].length, length);
         same("length", "in the lane by a block", by_block.records[0].length, length);
     }
+}
+
+/* A change to this surface gives `no`, by the call and by a block. */
+static void check_surface(uint64_t surface, uint32_t no, const char *answer) {
+    char block[64];
+    rondavitse_lane by_call = dry_lane(), by_block = by_call;
+    const uint64_t wanted = no == RONDAVITSE_ACCEPTED ? surface : by_call.surface;
+    sprintf(block, "call=surface\nsurface=%" PRIu64 "\n", surface);
+    same("surface", "no", rondavitse_surface(&by_call, surface), no);
+    check_block(&by_block, block, answer);
+    same("surface", "in the lane", by_call.surface, wanted);
+    same("surface", "in the lane by a block", by_block.surface, wanted);
 }
 
 /* A block's line holds 32 bits and is malformed past them; those of a call are 64. */
@@ -66,6 +82,19 @@ static void check_lengths(void) {
     check_length(wide, RONDAVITSE_LENGTH_TOO_LARGE, "no=8\n");
     check_length(wide + 100, RONDAVITSE_LENGTH_TOO_LARGE, "no=8\n");
     check_length(UINT64_MAX, RONDAVITSE_LENGTH_TOO_LARGE, "no=8\n");
+}
+
+static void check_surfaces(void) {
+    const uint64_t wide = UINT64_C(1) << 32;
+    for (uint64_t code = 0; code < RONDAVITSE_SURFACES; code++) {
+        check_surface(code, RONDAVITSE_ACCEPTED, "ok=surface\n");
+        check_surface(wide + code, RONDAVITSE_SURFACE_UNKNOWN, "no=8\n");
+    }
+    check_surface(RONDAVITSE_SURFACES, RONDAVITSE_SURFACE_UNKNOWN, "no=1\n");
+    check_surface(256 + 1, RONDAVITSE_SURFACE_UNKNOWN, "no=1\n");
+    check_surface(65536 + 1, RONDAVITSE_SURFACE_UNKNOWN, "no=1\n");
+    check_surface(wide - 1, RONDAVITSE_SURFACE_UNKNOWN, "no=1\n");
+    check_surface(UINT64_MAX, RONDAVITSE_SURFACE_UNKNOWN, "no=8\n");
 }
 
 /* Each line of a table text with this number gives `no`. */
@@ -96,7 +125,7 @@ static void check_floats(void) {
 
 static void check_words(void) {
     for (uint32_t no = 0; no < 100; no++) {
-        const bool known = no <= 13 || (no >= 21 && no <= 28) || (no >= 31 && no <= 33);
+        const bool known = no <= 13 || (no >= 21 && no <= 28) || (no >= 31 && no <= 34);
         same("words", "known", strcmp(rondavitse_words(no), "unknown refusal") != 0, known);
     }
     same("words", "of the largest number", (uint64_t)strcmp(rondavitse_words(UINT32_MAX), "unknown refusal"), 0);
@@ -105,6 +134,7 @@ static void check_words(void) {
 int main(void) {
     check_all_units();
     check_lengths();
+    check_surfaces();
     check_table_numbers();
     check_floats();
     check_words();

@@ -13,6 +13,12 @@ static void refused_load(uint32_t no, const char *text, size_t length, rondavits
     same_words("refused load", &lane, &kept);
 }
 
+static void refused_surface(uint32_t no, uint64_t surface, rondavitse_lane lane) {
+    const rondavitse_lane kept = lane;
+    same("refused surface", "no", rondavitse_surface(&lane, surface), no);
+    same_words("refused surface", &lane, &kept);
+}
+
 static void refused_enter(uint32_t no, rondavitse_carrier carrier, rondavitse_lane lane) {
     const rondavitse_lane kept = lane;
     const rondavitse_entered got = rondavitse_enter(&lane, carrier);
@@ -78,12 +84,15 @@ static void check_21(rondavitse_lane lane) {
     if (lane.started == 1) {
         refused_load(21, "", 0, lane);
     }
+    refused_surface(21, SURFACES, lane);
+    refused_surface(21, ROAD.surface, lane); /* the lane is unsound with any code */
     refused_enter(21, (rondavitse_carrier){0, 0, 0, UINT64_MAX}, lane);
     refused_named(21, 0, lane);
     refused_text(21, lane);
     refused_cycle(21, 3, no_sorts, 1, lane);
     refused_block(21, "call=enter\ncar=0\nat=0\nspeed=0\nlength=65536\n", lane);
     refused_block(21, "call=leave\ncar=0\n", lane);
+    refused_block(21, "call=surface\nsurface=8\n", lane);
     refused_block(21, "call=cycle\ncars=1\nwant=accel:7FC00000\n", lane);
     refused_block(21, "call=show\n", lane);
 }
@@ -186,6 +195,26 @@ static void check_refused_loads(void) {
     }
 }
 
+/* The lane is safe on every row of both sets but one in force: 34 for its code, and 21 for every code once it is that of the lane. */
+static void check_refused_surfaces(void) {
+    const uint64_t wide = UINT64_C(1) << 32, past[] = {SURFACES, wide, wide + ROAD.surface, UINT64_MAX};
+    for (size_t i = 0; i < sizeof past / sizeof past[0]; i++) {
+        refused_surface(1, past[i], lane_near());
+    }
+    for (uint64_t code = 0; code < SURFACES; code++) {
+        const uint32_t no = code == ROAD.surface ? 21 : 34;
+        rondavitse_lane lane = lane_near();
+        char block[64];
+        sprintf(block, "call=surface\nsurface=%" PRIu64 "\n", code);
+        lane.rows[code].guaranteed = 1;
+        refused_surface(no, code, lane);
+        refused_block(no, block, lane);
+        lane.surface = code;
+        refused_surface(21, code, lane);
+        refused_surface(21, ROAD.surface, lane);
+    }
+}
+
 /* 33 comes after 6 and before 22 and 23; 5 looks at the front, 25 and 26 at tails. */
 static void check_refused_entries(void) {
     const uint64_t wide = UINT64_C(1) << 32, longest = RONDAVITSE_LONGEST_CARRIER;
@@ -238,6 +267,7 @@ int main(void) {
     check_unsound_rows();
     check_refused_lines();
     check_refused_loads();
+    check_refused_surfaces();
     check_refused_entries();
     check_refused_arguments();
     check_refused_cycles();

@@ -21,6 +21,18 @@ static void check_start_and_load(void) {
     same_state("start over the end", &lane, &wanted);
 }
 
+/* The one behind stands, so that no surface is refused, whatever the foremost's speed is. */
+static void check_surface(uint64_t speed) {
+    for (uint64_t code = 0; code < SURFACES; code++) {
+        rondavitse_lane lane = lane_over_end();
+        lane.records[0].speed = speed;
+        rondavitse_lane wanted = lane;
+        wanted.surface = code;
+        same("surface over the end", "no", rondavitse_surface(&lane, code), RONDAVITSE_ACCEPTED);
+        same_words("surface over the end", &lane, &wanted);
+    }
+}
+
 /* No front enters at the end, nor one unit before it, level with the foremost's tail; far behind both one does. */
 static void check_enter(void) {
     rondavitse_carrier newcomer = carrier_at(2);
@@ -105,6 +117,7 @@ static void check_tail_before_start(void) {
         same("tail before the start", "no", rondavitse_enter(&lane, ahead).no, RONDAVITSE_ACCEPTED);
         same("tail before the start", "read", rondavitse_read(&lane, 1).no, RONDAVITSE_ACCEPTED);
         same("tail before the start", "no of one behind", rondavitse_enter(&lane, behind).no, free ? 0 : RONDAVITSE_UNSAFE_BEHIND_LEADER);
+        same("tail before the start", "surface", rondavitse_surface(&lane, RONDAVITSE_LAST_SURFACE), RONDAVITSE_ACCEPTED);
         same("tail before the start", "leave", rondavitse_leave(&lane, 1), RONDAVITSE_ACCEPTED);
     }
 }
@@ -150,9 +163,26 @@ static void check_wish(uint64_t length) {
     }
 }
 
+/* On each wetter house row one that would rest level with the tail ahead is refused the surface, one unit less is not. */
+static void check_rain(uint64_t length) {
+    const uint64_t stops[SURFACES] = {64, 80, 96, 112, 128, 256, 684, 4096}; /* from a speed of 64 */
+    for (uint64_t code = 1; code < SURFACES; code++) {
+        for (uint64_t room = stops[code]; room <= stops[code] + 1; room++) {
+            rondavitse_lane lane = started_lane(100000);
+            const rondavitse_carrier ahead = {7, 700 + room + length, 0, length}, behind = {8, 700, 64, 9};
+            same("rain", "no of the one ahead", rondavitse_enter(&lane, ahead).no, RONDAVITSE_ACCEPTED);
+            same("rain", "no of the one behind", rondavitse_enter(&lane, behind).no, RONDAVITSE_ACCEPTED);
+            same("rain", "no", rondavitse_surface(&lane, code), room == stops[code] ? RONDAVITSE_SURFACE_UNSAFE : 0);
+            same("rain", "surface", lane.surface, room == stops[code] ? 0 : code);
+        }
+    }
+}
+
 int main(void) {
     const uint64_t lengths[] = {0, 1, 300, RONDAVITSE_LONGEST_CARRIER};
     check_start_and_load();
+    check_surface(0);
+    check_surface(ROAD.limit);
     check_enter();
     check_read_and_leave();
     check_text();
@@ -163,6 +193,7 @@ int main(void) {
     for (size_t i = 0; i < sizeof lengths / sizeof lengths[0]; i++) {
         check_rest(lengths[i]);
         check_wish(lengths[i]);
+        check_rain(lengths[i]);
     }
     return verdict();
 }

@@ -29,6 +29,10 @@ class Lane {
         check(rondavitse_start(&words, road, first));
     }
 
+    void change_surface(uint64_t surface) {
+        check(rondavitse_surface(&words, surface));
+    }
+
     size_t enter(rondavitse_carrier carrier) {
         const rondavitse_entered answer = rondavitse_enter(&words, carrier);
         check(answer.no);
@@ -63,10 +67,19 @@ class Lane {
     rondavitse_lane words;
 };
 
+static void try_surface(Lane &lane, uint64_t surface) {
+    try {
+        lane.change_surface(surface);
+        std::printf("surface %" PRIu64 " in force\n", surface);
+    } catch (const Refused &refusal) {
+        std::printf("surface %" PRIu64 " refused by %" PRIu32 ": %s\n", surface, refusal.no, refusal.what());
+    }
+}
+
 int main() {
-    std::string table; // of a terminal on which all surfaces are alike
-    for (int code = 0; code < RONDAVITSE_SURFACES; code++) {
-        table += "b=60\nB=120\nA=30\n";
+    std::string table = "b=60\nB=120\nA=30\n"; // of a terminal on which all surfaces but the dry one are alike
+    for (int code = 1; code < RONDAVITSE_SURFACES; code++) {
+        table += "b=20\nB=80\nA=10\n";
     }
     Lane lane(table, {0, 10000, 1000}, 0);
     // The third is behind the second's front and not behind its tail; the fourth's length would be 100 if it were cut.
@@ -78,6 +91,7 @@ int main() {
             std::printf("carrier %" PRIu64 " refused by %" PRIu32 ": %s\n", carrier.number, refusal.no, refusal.what());
         }
     }
+    try_surface(lane, 1); // the second would not stop before the first's tail
     for (const int64_t units : {INT64_C(4294967328), INT64_C(32)}) { // the first would be 32 if it were cut
         try {
             const auto answer = lane.cycle({{RONDAVITSE_HOLD, 0}, {RONDAVITSE_UNITS, rondavitse_units(units)}});
@@ -86,6 +100,8 @@ int main() {
             std::printf("cycle refused by %" PRIu32 ": %s\n", refusal.no, refusal.what());
         }
     }
+    try_surface(lane, UINT64_C(4294967297)); // 1 if it were cut
+    try_surface(lane, 1);
     for (const uint64_t number : {7, 8}) {
         const rondavitse_reading reading = lane.read(number);
         std::printf("carrier %" PRIu64 ": %.11f m, %.7f m/s\n", number, reading.position, reading.speed);

@@ -6,7 +6,7 @@ import ctypes
 import sys
 from ctypes import byref, c_char_p, c_double, c_size_t, c_uint8, c_uint32, c_uint64
 
-VERSION, SURFACES, WORDS_OF_A_LANE = 4, 8, 712  # of the interface that the structs below are of
+VERSION, SURFACES, WORDS_OF_A_LANE = 5, 8, 712  # of the interface that the structs below are of
 UNITS, HOLD = 0, 3
 
 
@@ -64,6 +64,9 @@ class Supervisor:
         self.check(answer.no)
         return answer
 
+    def change_surface(self, surface):
+        self.check(self.called("surface", c_uint32, byref(self.lane), wide(surface)))
+
     def enter(self, number, position, speed, length):
         return self.answer("enter", Entered, Carrier(*map(wide, (number, position, speed, length)))).place
 
@@ -76,8 +79,17 @@ class Supervisor:
         return self.answer("read", ReadOut, wide(number))
 
 
+def try_surface(lane, surface):
+    try:
+        lane.change_surface(surface)
+        print(f"surface {surface} in force")
+    except Refused as refusal:
+        print("surface {} refused by {}: {}".format(surface, *refusal.args))
+
+
 def main(path):
-    table = b"b=60\nB=120\nA=30\n" * SURFACES  # of a terminal on which all surfaces are alike
+    dry, wet = b"b=60\nB=120\nA=30\n", b"b=20\nB=80\nA=10\n"
+    table = dry + wet * (SURFACES - 1)  # of a terminal on which all surfaces but the dry one are alike
     lane = Supervisor(path, table, (0, 10000, 1000), 0)
     # The third is behind the second's front and not behind its tail; the fourth's length would be 100 if it were cut.
     for carrier in ((7, 1000, 0, 200), (8, 700, 64, 100), (9, 650, 0, 100), (10, 500, 0, 4294967396)):
@@ -85,12 +97,15 @@ def main(path):
             print(f"carrier {carrier[0]} enters at place {lane.enter(*carrier)}")
         except Refused as refusal:
             print("carrier {} refused by {}: {}".format(carrier[0], *refusal.args))
+    try_surface(lane, 1)  # the second would not stop before the first's tail
     for number in (4294967328, 32):  # the first would be 32 if it were cut
         try:
             answer = lane.cycle([(HOLD, 0), (UNITS, units(number))])
             print(f"cycle: replaced {answer.word:016X}, gone {answer.gone}")
         except Refused as refusal:
             print("cycle refused by {}: {}".format(*refusal.args))
+    try_surface(lane, 4294967297)  # 1 if it were cut
+    try_surface(lane, 1)
     for number in (7, 8):
         reading = lane.read(number)
         print(f"carrier {number}: {reading.position:.11f} m, {reading.speed:.7f} m/s")

@@ -1,7 +1,7 @@
 //! The functions and structs of `rondavitse.h`.
 
 /// The interface that this file is for.
-pub const VERSION: u32 = 4;
+pub const VERSION: u32 = 5;
 pub const SURFACES: usize = 8;
 pub const MOST_CARRIERS: usize = 64;
 pub const LONGEST_TEXT: usize = 3_080;
@@ -134,6 +134,7 @@ extern "C" {
     pub fn rondavitse_empty(lane: &mut Lane);
     pub fn rondavitse_load(lane: &mut Lane, text: *const u8, text_length: usize) -> u32;
     pub fn rondavitse_start(lane: &mut Lane, road: Road, first: u64) -> u32;
+    pub fn rondavitse_surface(lane: &mut Lane, surface: u64) -> u32;
     pub fn rondavitse_enter(lane: &mut Lane, carrier: Carrier) -> Entered;
     pub fn rondavitse_leave(lane: &mut Lane, number: u64) -> u32;
     pub fn rondavitse_cycle(

@@ -73,6 +73,11 @@ impl Lane {
         Refusal::check(unsafe { rondavitse_start(&mut self.0, road, first) })
     }
 
+    /// Changes the surface between cycles, if the whole lane is safe on it.
+    pub fn change_surface(&mut self, surface: u64) -> Result<(), Refusal> {
+        Refusal::check(unsafe { rondavitse_surface(&mut self.0, surface) })
+    }
+
     /// Lets a carrier in and gives its place.
     pub fn enter(&mut self, carrier: Carrier) -> Result<usize, Refusal> {
         let answer = unsafe { rondavitse_enter(&mut self.0, carrier) };
@@ -118,6 +123,11 @@ impl Lane {
         Refusal::check(answer.no)?;
         text.truncate(answer.length);
         Ok(String::from_utf8(text).expect("a lane text is ASCII"))
+    }
+
+    /// The surface in force, the lane end and the speed limit.
+    pub fn road(&self) -> Road {
+        self.0.road
     }
 
     /// The carriers, front to back.

@@ -1,17 +1,23 @@
 //! A worked host: five minutes of a lane with an entry at its start, a side
 //! road, an exit and an end that carriers run out at, on surface figures of the
-//! terminal's own. It prints a summary that is the same in every run, and the
-//! same as that of the host in C.
+//! terminal's own; for a while it rains. It prints a summary that is the same
+//! in every run, and the same as that of the host in C.
 
 use rondavitse::{Carrier, Lane, Refusal, Road, Wish};
 use std::collections::BTreeMap;
+use std::ops::Range;
 
 /// Positions count 1/2048 m, speeds 1/128 m/s.
 const METRE: u64 = 2048;
 const METRE_PER_SECOND: u64 = 128;
 const CYCLES: u32 = 2_400;
+/// Surface codes.
+const DRY: u64 = 0;
+const WET: u64 = 4;
+/// In cycles.
+const RAIN: Range<u32> = 900..1_700;
 const ROAD: Road = Road {
-    surface: 0, // dry
+    surface: DRY,
     end: 400 * METRE,
     limit: 20 * METRE_PER_SECOND,
 };
@@ -32,7 +38,11 @@ struct Host {
     lane: Lane,
     next_number: u64,
     admitted: u32,
+    /// Entries, by their refusal.
     refused: BTreeMap<Refusal, u32>,
+    /// Changes of surface accepted, and refused with 34.
+    changed: u32,
+    postponed: u32,
     replaced: u32,
     left: u32,
     gone: u32,
@@ -56,6 +66,8 @@ impl Host {
             next_number: 1,
             admitted: 0,
             refused: BTreeMap::new(),
+            changed: 0,
+            postponed: 0,
             replaced: 0,
             left: 0,
             gone: 0,
@@ -65,7 +77,29 @@ impl Host {
         })
     }
 
+    /// Until a change is accepted nobody is let in, and all but the foremost
+    /// slow down: once they stand, no surface is refused.
+    fn awaits_surface(&self, cycle: u32) -> bool {
+        self.lane.road().surface != surface_wanted(cycle)
+    }
+
+    /// A change that is refused is asked for again in the next cycle.
+    fn try_surface(&mut self, cycle: u32) -> Result<(), Refusal> {
+        if !self.awaits_surface(cycle) {
+            return Ok(());
+        }
+        match self.lane.change_surface(surface_wanted(cycle)) {
+            Ok(()) => self.changed += 1,
+            Err(Refusal::SurfaceUnsafe) => self.postponed += 1,
+            Err(refusal) => return Err(refusal),
+        }
+        Ok(())
+    }
+
     fn let_carriers_in(&mut self, cycle: u32) {
+        if self.awaits_surface(cycle) {
+            return;
+        }
         if cycle.is_multiple_of(16) {
             self.try_entry(0, 14 * METRE_PER_SECOND);
         }
@@ -92,9 +126,10 @@ impl Host {
     }
 
     fn drive(&mut self, cycle: u32) -> Result<(), Refusal> {
+        let slower = self.awaits_surface(cycle);
         let carriers = self.lane.carriers().enumerate();
         let wishes: Vec<Wish> = carriers
-            .map(|(place, carrier)| wish_of(carrier, place, cycle))
+            .map(|(place, carrier)| wish_of(carrier, place, cycle, slower))
             .collect();
         let cycled = self.lane.cycle(&wishes)?;
         self.replaced += cycled.replaced;
@@ -140,6 +175,9 @@ impl Host {
         for (refusal, times) in &self.refused {
             println!("entries refused with {refusal}: {times}");
         }
+        println!("changes of surface: {}", self.changed);
+        let (refusal, times) = (Refusal::SurfaceUnsafe, self.postponed);
+        println!("changes of surface refused with {refusal}: {times}");
         println!("wishes replaced: {}", self.replaced);
         println!("carriers out by the exit: {}", self.left);
         println!("carriers gone at the lane end: {}", self.gone);
@@ -156,15 +194,27 @@ impl Host {
     }
 }
 
+fn surface_wanted(cycle: u32) -> u64 {
+    if RAIN.contains(&cycle) {
+        WET
+    } else {
+        DRY
+    }
+}
+
 /// Every third carrier takes a container of 20 feet, the others take one of 40.
 fn length_of(number: u64) -> u64 {
     METRE * if number.is_multiple_of(3) { 8 } else { 14 }
 }
 
-/// By the carrier's number; but now and then the foremost brakes for six seconds.
-fn wish_of(carrier: Carrier, place: usize, cycle: u32) -> Wish {
+/// By the carrier's number; but now and then the foremost brakes for six seconds,
+/// and those behind it slow down where they are to.
+fn wish_of(carrier: Carrier, place: usize, cycle: u32, slower: bool) -> Wish {
     if place == 0 && cycle % 600 >= 552 {
         return Wish::Acceleration(-2.5);
+    }
+    if place > 0 && slower {
+        return Wish::Acceleration(-1.5);
     }
     match carrier.number % 4 {
         0 if carrier.speed < 8 * METRE_PER_SECOND => Wish::Units(16),
@@ -178,6 +228,7 @@ fn wish_of(carrier: Carrier, place: usize, cycle: u32) -> Wish {
 fn main() -> Result<(), Refusal> {
     let mut host = Host::started()?;
     for cycle in 0..CYCLES {
+        host.try_surface(cycle)?;
         host.let_carriers_in(cycle);
         host.drive(cycle)?;
         host.watch()?;

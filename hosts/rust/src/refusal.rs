@@ -31,12 +31,13 @@ pub enum Refusal {
     TableUnsound = 31,
     LaneOccupied = 32,
     LengthTooLarge = 33,
+    SurfaceUnsafe = 34,
 }
 
 use Refusal::*;
 
 /// Every refusal and what it says.
-const WORDS: [(Refusal, &str); 24] = [
+const WORDS: [(Refusal, &str); 25] = [
     (SurfaceUnknown, "surface above 7"),
     (EndOutOfRange, "lane end outside 1 to 2^31"),
     (LimitOutOfRange, "limit outside 1 to 8,192"),
@@ -70,6 +71,7 @@ const WORDS: [(Refusal, &str); 24] = [
     (TableUnsound, "malformed table text, or an unsound row"),
     (LaneOccupied, "carriers are on the lane"),
     (LengthTooLarge, "length above 65,535"),
+    (SurfaceUnsafe, "the lane would not be safe on that surface"),
 ];
 
 impl Refusal {
