@@ -7,8 +7,11 @@ COLOURS = ("#1b6ca8", "#2e8b57", "#8e5ea2", "#b8860b", "#4a7c86", "#7a5c3e", "#5
 STYLE = """
 text { font: 12px sans-serif; fill: #333 }
 .number { font-weight: bold; stroke: white; stroke-width: 3px; paint-order: stroke }
+.no { fill: #d62728 }
+.code { fill: #0a7ea4 }
 .grid { stroke: #e4e4e4 }
 .end { stroke: #333; stroke-dasharray: 6 4 }
+.surface { stroke: #0a7ea4; stroke-width: 1.5; stroke-dasharray: 2 3 }
 .band { fill-opacity: 0.22 }
 .track { fill: none; stroke-width: 2; stroke-linejoin: round }
 .replaced { fill: none; stroke: #d62728; stroke-width: 5; stroke-opacity: 0.55; stroke-linecap: round }
@@ -29,6 +32,8 @@ def elements(story):
     yield f'<rect width="{WIDTH}" height="{HEIGHT}" fill="white"/>'
     yield from legend()
     yield from axes(scale)
+    for time, code in story.surfaces:
+        yield from surface(scale.x(time), code)
     coloured = [(track, COLOURS[index % len(COLOURS)]) for index, track in enumerate(story.tracks)]
     # Tails before the lane's start and fronts past its end are cut off; marks at the edge are not.
     yield f'<clipPath id="frame"><rect x="{LEFT}" y="{TOP}" width="{WIDTH - LEFT - RIGHT}" height="{HEIGHT - TOP - BOTTOM}"/></clipPath>'
@@ -43,6 +48,8 @@ def elements(story):
         yield number(scale, track, colour)
     for time, position, refusal in story.refusals:
         yield from refused(scale.x(time), scale.y(position), refusal)
+    for time, code, refusal in story.refused_surfaces:
+        yield from refused_surface(scale.x(time), code, refusal)
     if story.cut:
         yield f'<text x="{WIDTH - RIGHT}" y="{HEIGHT - 10}" text-anchor="end">malformed text follows: nothing of it was run</text>'
     yield "</svg>"
@@ -54,7 +61,8 @@ def summary(story):
     replaced = sum(len(track.replaced) for track in story.tracks)
     return (
         f"Cycles run: {story.time}; carriers entered: {len(ends)}, left: {ends.count('left')}, gone at the lane end: {ends.count('gone')}; "
-        f"entries refused: {len(story.refusals)}; wishes replaced: {replaced}"
+        f"entries refused: {len(story.refusals)}; changes of surface: {len(story.surfaces)}, refused: {len(story.refused_surfaces)}; "
+        f"wishes replaced: {replaced}"
     )
 
 
@@ -168,7 +176,23 @@ def cross(x, y):
 
 def refused(x, y, refusal):
     yield cross(x, y)
-    yield f'<text class="number" style="fill: #d62728" x="{x + 8:.1f}" y="{y + 15:.1f}">no={refusal}</text>'
+    yield f'<text class="number no" x="{x + 8:.1f}" y="{y + 15:.1f}">no={refusal}</text>'
+
+
+def surface(x, code):
+    yield f'<line class="surface" x1="{x:.1f}" y1="{TOP}" x2="{x:.1f}" y2="{HEIGHT - BOTTOM}"/>'
+    yield above(x, f"surface {code}", "code")
+
+
+def refused_surface(x, code, refusal):
+    yield cross(x, TOP)
+    yield above(x, f"surface {code}: no={refusal}", "no")
+
+
+def above(x, words, kind):
+    """Words over the diagram, towards its middle, so that none are cut off."""
+    anchor = "start" if x < WIDTH / 2 else "end"
+    return f'<text class="number {kind}" x="{x:.1f}" y="{TOP - 11}" text-anchor="{anchor}">{words}</text>'
 
 
 def legend():
@@ -183,8 +207,8 @@ def legend():
         yield f'<text x="{x + 18}" y="{y}">{meaning}</text>'
         x += 40 + 7 * len(meaning)
     yield cross(x + 6, y - 4)
-    yield f'<text x="{x + 18}" y="{y}">entry refused</text>'
-    x += 130
+    yield f'<text x="{x + 18}" y="{y}">refused</text>'
+    x += 90
     yield f'<line class="replaced" x1="{x}" y1="{y - 4}" x2="{x + 24}" y2="{y - 4}"/>'
     yield f'<text x="{x + 32}" y="{y}">wish replaced by braking</text>'
     x += 200

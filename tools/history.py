@@ -4,7 +4,7 @@ import subprocess
 from dataclasses import dataclass, field
 
 LONGEST_INPUT = 65536
-LINES = {b"start": 5, b"enter": 5, b"leave": 2, b"show": 1}  # of a block; those of a cycle are two and its wishes
+LINES = {b"start": 5, b"enter": 5, b"leave": 2, b"surface": 2, b"show": 1}  # of a block; those of a cycle are two and its wishes
 
 
 class Unfit(Exception):
@@ -29,6 +29,8 @@ class Story:
     time: int = 0  # cycles run
     tracks: list = field(default_factory=list)
     refusals: list = field(default_factory=list)  # entries refused: time, position, number of the refusal
+    surfaces: list = field(default_factory=list)  # changes of surface: time, code
+    refused_surfaces: list = field(default_factory=list)  # time, code, number of the refusal
     cut: bool = False  # malformed text follows, of which nothing was run
 
 
@@ -99,6 +101,8 @@ class Teller:
             self.entered(int(answer["place"]), lane)
         elif call == "leave":
             self.left(int(block["car"]))
+        elif call == "surface":
+            self.story.surfaces.append((self.story.time, int(block["surface"])))
         elif call == "cycle":
             self.driven(int(answer["over"], 16), lane)
 
@@ -106,6 +110,8 @@ class Teller:
         if call == "enter":
             position = min(int(block["at"]), self.lane_end)
             self.story.refusals.append((self.story.time, position, number))
+        elif call == "surface":
+            self.story.refused_surfaces.append((self.story.time, int(block["surface"]), number))
 
     def started(self, lane_end):
         self.present = []
