@@ -9,9 +9,9 @@ use Rattle.lane.specs.Layout.{Words, stateOf}
 use Rattle.lane.specs.Rules.{broken}
 use Rattle.lane.specs.Call.{Call, surface-call, Answer, callNo}
 use Rattle.lane.proofs.CallLaws.{answer-number}
-use Rattle.lane.proofs.SurfaceLaws.{surface-in-force, surface-answers}
+use Rattle.lane.proofs.SurfaceLaws.{surface-in-force, surface-answers, surface-standing}
 use Rattle.history.specs.Book.{Book, begun}
-use Rattle.history.specs.Claims.{SafeOn}
+use Rattle.history.specs.Claims.{carrierAt, SafeOn}
 use Rattle.history.specs.History.{Event, bookOn, laneAfter, Ran, Chain, chain-next, SurfaceExactly, SurfaceChanges}
 use Rattle.history.proofs.Agreement.{empty-agrees}
 use Rattle.history.proofs.CycleRuns.{bookOf}
@@ -24,6 +24,7 @@ Exactly b code number =
     (((i : ℕ) → suc i < length (b .carriers) → SafeOn b code i) → number ≡ 0)
     × ((i : ℕ) → suc i < length (b .carriers) → ¬ (SafeOn b code i) → number ≡ 34)
     × (code ≡ b .road .surface → number ≡ 0)
+    × (((i : ℕ) → suc i < length (b .carriers) → carrierAt b (suc i) .speed ≡ 0) → number ≡ 0)
 
 exactly : (s : State) (code : ℕ) → ¬ (callNo (surface-call code) s ≡ 21) → code ≤ 7 → Exactly (bookOf s) code (callNo (surface-call code) s)
 exactly s code passes known = by-rules (broken s) refl
@@ -32,7 +33,7 @@ exactly s code passes known = by-rules (broken s) refl
     by-rules true e = absurd (passes (surface-answers s code .0 e))
     by-rules false e =
         let told = surface-answers s code in
-        (told .2 e known, told .3 e known, λ same. ap (λ (n : ℕ). callNo (surface-call n) s) same ∙ surface-in-force s e)
+        (told .2 e known, told .3 e known, λ same. ap (λ (n : ℕ). callNo (surface-call n) s) same ∙ surface-in-force s e, surface-standing s code e known)
 
 chain-surface-exactly : {l d : Words} {es : List Event} → stateOf l .count ≡ 0 → Chain l es d → SurfaceExactly l es
 chain-surface-exactly {l} {d} none c before change later code is is-change passes known =

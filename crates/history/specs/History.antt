@@ -25,7 +25,7 @@ use Rattle.lane.proofs.cycle.Reads as cycle-reads
 use Rattle.lane.proofs.read.Reads as read-reads
 use Rattle.lane.proofs.lane_text.Reads as text-reads
 use Rattle.history.specs.Book.{Seen, Book, begun, booked}
-use Rattle.history.specs.Claims.{Kind, begins, loads, surfaces, runs, other, kindOf, SafeOn, Claims}
+use Rattle.history.specs.Claims.{Kind, begins, loads, surfaces, runs, other, kindOf, carrierAt, SafeOn, Claims}
 
 -- a call, what it answered and the lane that it left
 pub record Event : Type 0 where
@@ -188,7 +188,8 @@ LoadedRowsServe es =
     → stateOf (laneAfter (start .left) serving) .tables .inForce ≡ rowsLoaded (tableIn text)
 
 -- T-05: "The change is accepted if the whole lane is safe under the new row and refused otherwise.": on a lane that 21 passes a change to a code that
--- there is gives 0 where the book's carriers are all safe, 34 where one is not; and 0 for the code that the book has already
+-- there is gives 0 where the book's carriers are all safe, 34 where one is not; and so 0 for the code that the book has already, and 0 where
+-- nobody behind the foremost moves
 abbrev pub SurfaceExactly : Words → List Event → Type 0
 SurfaceExactly l es =
     (before : List Event) (change : Event) (later : List Event) (code : ℕ)
@@ -198,6 +199,7 @@ SurfaceExactly l es =
     (((i : ℕ) → suc i < length (b .carriers) → SafeOn b code i) → change .answer .number ≡ 0)
     × ((i : ℕ) → suc i < length (b .carriers) → ¬ (SafeOn b code i) → change .answer .number ≡ 34)
     × (code ≡ b .road .surface → change .answer .number ≡ 0)
+    × (((i : ℕ) → suc i < length (b .carriers) → carrierAt b (suc i) .speed ≡ 0) → change .answer .number ≡ 0)
 
 -- T-05, "to change the surface code between cycles": after an accepted change and a list in which no call puts another, the lane has its code, and
 -- the row in force is that of the code among the rows that were in force before it

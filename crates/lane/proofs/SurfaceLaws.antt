@@ -2,17 +2,20 @@
 use mathlib.Core.Path.{_≡_, refl, _∙_}
 use mathlib.Core.Bool.{Bool, true, false, cond}
 use Prim.Native.Nat.{ℕ, suc, _+_, _≤_, _<_}
+use native.Mathlib.Nat.{zero-mul, zero-div, zero-mod}
+use native.Mathlib.Omega.{arith}
 use borrow.Author.Tests.{lt-ltb, le-ltb}
 use lib.ListN.{length, getD}
 use Rattle.headway.specs.Stopping.{stoppingDistance}
-use Rattle.headway.proofs.Laws.{safe-says, safe-holds}
+use Rattle.headway.proofs.Laws.{stopping-quotient, safe-says, safe-holds}
 use Rattle.lane.specs.declared.Row.{Row}
-use Rattle.lane.specs.Surface.{rowOf}
+use Rattle.lane.specs.Surface.{rowOf, rowIn}
 use Rattle.lane.specs.State.{State}
 use Rattle.lane.specs.Safety.{safeWith, laneSafe}
 use Rattle.lane.specs.Rules.{broken}
 use Rattle.lane.specs.Calls.{none, surfaceNo}
 use Rattle.lane.specs.Call.{surface-call, callNo}
+use Rattle.lane.proofs.checks.Surfaces.{row-brakes, sound-at}
 use Rattle.lane.proofs.checks.Soundness.{sound}
 use Rattle.lane.proofs.calls.Order.{safe-neighbours, safe-behind-leader}
 
@@ -55,3 +58,18 @@ surface-answers s code = (
     unsafe : ¬ (laneSafe r (s .carriers) ≡ true) → (t : Bool) → laneSafe r (s .carriers) ≡ t → _≡_ {A = ℕ} (cond t 0 34) 34
     unsafe h true q = absurd (h q)
     unsafe h false q = refl
+
+-- a carrier at rest stops where it is
+at-rest : (c : ℕ) → 1 ≤ c → stoppingDistance c 0 ≡ 0
+at-rest c h = rw (stopping-quotient c 0 h, zero-div c, zero-mod c, zero-mul c) refl
+
+-- so that where nobody behind the foremost moves every code that there is is accepted
+pub surface-standing : (s : State) (code : ℕ) → broken s ≡ false → code ≤ 7
+    → ((i : ℕ) → suc i < length (s .carriers) → getD (s .carriers) (suc i) none .speed ≡ 0) → callNo (surface-call code) s ≡ 0
+unfolding safeWith
+surface-standing s code e known rest =
+    let h = sound s e in
+    let brakes = row-brakes _ (sound-at (s .tables .inForce) code known (h .in-force)) in
+    surface-answers s code .2 e known λ i p.
+    let own = safe-says _ _ _ _ _ _ (safe-behind-leader (rowIn (s .tables) (s .road)) (s .carriers) (h .carriers .safe) i p) in
+    (own .below, rw (rest i p, at-rest _ (brakes .0)) (omega (arith, own .below)))
