@@ -147,7 +147,7 @@ typedef struct rondavitse_record {
 
 /* The first `count` records are the carriers, front to back. An unsound row in either set gets 21, but for what is said at load and start; a
  * started lane with one among `next_rows` can do neither, and has to be made empty. No call's answer depends on a word called free, nor on
- * the records past the carriers; a call that is accepted may leave anything there, but for rondavitse_surface. */
+ * the records past the carriers; a call that is accepted and changes the lane may leave anything there, but for rondavitse_surface. */
 typedef struct rondavitse_lane {
     uint64_t started; /* 1; any other word counts as never started */
     uint64_t surface;
@@ -210,8 +210,8 @@ uint32_t rondavitse_start(rondavitse_lane *lane, rondavitse_road road, uint64_t 
 
 /* Changes the surface between cycles, as when it rains; gives `no`. The word `surface` becomes the code, and every other word of the lane, free
  * ones and idle records included, stays as it was. The whole lane has to be safe under the code's row among `rows`, by which trimming, braking,
- * wishes, entries and 21 then go. The code in force is accepted on every lane that 21 passes, and so is every code where no carrier behind the
- * foremost moves: a host that gets 34 lets them slow down and asks again. Checks: 21, 1, 34. */
+ * wishes, entries and 21 then go. The code in force is accepted on every lane that 21 passes, and so is every code up to 7 where no carrier
+ * behind the foremost moves: a host that gets 34 lets them slow down and asks again. Checks: 21, 1, 34. */
 uint32_t rondavitse_surface(rondavitse_lane *lane, uint64_t surface);
 
 /* The carrier goes in at the place found, if it and the one behind it are safe there, each behind the tail of the one ahead.

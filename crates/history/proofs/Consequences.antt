@@ -25,13 +25,14 @@ use Rattle.lane.specs.Call.{Call, start-call, cycle-call, read-call, Answer, ca
 use Rattle.lane.proofs.CallLaws.{answer-number, kept-not-21}
 use Rattle.history.specs.Book.{Seen, Book, begun, trimmedIn, drivenIn, booked}
 use Rattle.history.specs.Claims.{Kind, begins, loads, surfaces, runs, other, kindOf, carrierAt, placeAt, restsLevelOrCrossed, Claims}
-use Rattle.history.specs.History.{Event, callsIn, seen, bookOn, Ran, Typed, AllTyped, startsLane, Chain, chain-end, chain-next, Throughout, NeverBroken}
+use Rattle.history.specs.History.{Event, callsIn, seen, bookOn, Ran, Typed, AllTyped, startsLane, Chain, chain-end, chain-next, Throughout, SurfaceChanges, NeverBroken}
 use Rattle.history.proofs.Bits.{below-power}
 use Rattle.history.proofs.Books.{driven-at-least}
 use Rattle.history.proofs.Fronts.{front-below}
 use Rattle.history.proofs.Lasting.{goes-on}
 use Rattle.history.proofs.History.{ran-gives, history}
 use Rattle.history.proofs.Answered.{every-list}
+use Rattle.history.proofs.Changes.{surface-changes}
 
 -- what is claimed throughout is claimed of every call of the list, at the lane and the book that the calls before it have left
 pub at-each-call : (b : Book) (before : List Event) (e : Event) (later : List Event) → Throughout b (before ++ (e ∷ later))
@@ -168,13 +169,13 @@ module _ (after : Words) (count word : ℕ) (ws : List Wish) (b : Book)
 -- ---- of lists
 
 -- for every list of calls from an empty lane, cycles with any sixty-four wishes among them, there is a history, and what is claimed holds
--- throughout it
+-- throughout it, and of its changes of surface
 pub every-list-claimed : (l : Words) → stateOf l .count ≡ 0 → (xs : List Call)
     → ((i count : ℕ) (ws : List Wish) → getD xs i (read-call 0) ≡ cycle-call count ws → length ws ≡ 64)
-    → (es : List Event) × (d : Words) × Ran l es d × (callsIn es ≡ xs) × Throughout (begun l) es
+    → (es : List Event) × (d : Words) × Ran l es d × (callsIn es ≡ xs) × Throughout (begun l) es × SurfaceChanges l es
 every-list-claimed l e xs sixty-four =
     let h = every-list l xs (all-typed xs sixty-four) in
-    (h .events, h .last, h .ran, h .calls, history l e (h .events) (h .last) (h .ran))
+    (h .events, h .last, h .ran, h .calls, history l e (h .events) (h .last) (h .ran), surface-changes l e (h .events) (h .last) (h .ran))
   where
     typed : {x : Call} (k : Kind x) → ((count : ℕ) (ws : List Wish) → x ≡ cycle-call count ws → length ws ≡ 64) → Typed k
     typed (begins road first) h = tt

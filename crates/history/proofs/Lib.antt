@@ -9,7 +9,7 @@ mod Agreement
 mod Lasting
 pub mod History
 pub mod Answered
-pub mod Consequences
 pub mod Rows
 pub mod Changes
+pub mod Consequences
 pub mod Remaining

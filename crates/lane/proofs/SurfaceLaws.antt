@@ -1,16 +1,18 @@
--- A change of surface in numbers: which one is accepted, and with which number another is turned away.
+-- A change of surface in numbers: which word it puts, which one is accepted, and with which number another is turned away.
 use mathlib.Core.Path.{_≡_, refl, _∙_}
 use mathlib.Core.Bool.{Bool, true, false, cond}
-use Prim.Native.Nat.{ℕ, suc, _+_, _≤_, _<_}
+use mathlib.Core.List.{List, [], _∷_}
+use Prim.Native.Nat.{ℕ, zero, suc, _+_, _≤_, _<_}
 use native.Mathlib.Nat.{zero-mul, zero-div, zero-mod}
 use native.Mathlib.Omega.{arith}
 use borrow.Author.Tests.{lt-ltb, le-ltb}
-use lib.ListN.{length, getD}
+use lib.ListN.{length, getD, set}
 use Rattle.headway.specs.Stopping.{stoppingDistance}
 use Rattle.headway.proofs.Laws.{stopping-quotient, safe-says, safe-holds}
 use Rattle.lane.specs.declared.Row.{Row}
 use Rattle.lane.specs.Surface.{rowOf, rowIn}
 use Rattle.lane.specs.State.{State}
+use Rattle.lane.specs.Layout.{Words, withCode}
 use Rattle.lane.specs.Safety.{safeWith, laneSafe}
 use Rattle.lane.specs.Rules.{broken}
 use Rattle.lane.specs.Calls.{none, surfaceNo}
@@ -18,6 +20,21 @@ use Rattle.lane.specs.Call.{surface-call, callNo}
 use Rattle.lane.proofs.checks.Surfaces.{row-brakes, sound-at}
 use Rattle.lane.proofs.checks.Soundness.{sound}
 use Rattle.lane.proofs.calls.Order.{safe-neighbours, safe-behind-leader}
+
+-- ---- the words: a change by the function itself leaves `withCode`, in which every word but that of the code is as it was
+pub other-words-stay : (l : Words) (code i j : ℕ) → ¬ ((i ≡ 0) × (j ≡ 1)) → getD (getD (withCode code l) i []) j 0 ≡ getD (getD l i []) j 0
+other-words-stay [] code i j h = refl
+other-words-stay (r ∷ l) code (suc i) j h = refl
+other-words-stay (r ∷ l) code zero j h = in-row r j (λ e. h (refl, e))
+  where
+    in-row : (r : List ℕ) (j : ℕ) → ¬ (j ≡ 1) → getD (set r 1 code) j 0 ≡ getD r j 0
+    in-row [] j h = refl
+    in-row (a ∷ r) zero h = refl
+    in-row (a ∷ []) (suc j) h = refl
+    in-row (a ∷ b ∷ r) (suc zero) h = absurd (h refl)
+    in-row (a ∷ b ∷ r) (suc (suc j)) h = refl
+
+-- ---- the number
 
 -- the code already in force is accepted on every lane that 21 passes
 pub surface-in-force : (s : State) → broken s ≡ false → callNo (surface-call (s .road .surface)) s ≡ 0

@@ -236,19 +236,6 @@ fn cycle_checks_in_order() {
     refused(&lane, 28, cycle(2, &[]));
 }
 
-#[test]
-fn surface_checks_in_order() {
-    // Carrier 8 would rest at 764 on surface 0, but at 4,796 on surface 7.
-    let lane = example_lane(1_000);
-    for surface in [8, u32::MAX.into(), 1 << 32, 7 + (1 << 32), u64::MAX] {
-        refused(&lane, 1, Call::Surface { surface });
-    }
-    refused(&lane, 34, Call::Surface { surface: 7 });
-    let far = example_lane(4_797);
-    refused(&example_lane(4_796), 34, Call::Surface { surface: 7 });
-    assert_eq!(far.clone().surface(7), Ok(()));
-}
-
 /// Asserts that the cycle is refused with `number` and leaves the lane as it was.
 fn refused_given(lane: &Lane, number: u32, count: u64, sorts: &[u8], values: &[u32]) {
     let mut after = *lane;

@@ -47,12 +47,10 @@ fn step(lane: &mut Words, input: &[u8], at: usize, room: usize) -> Result<Steppe
     let mut expected = FastLane(words::lane(&before));
     let wanted = program::step(&mut expected, input, at, room);
     compared(&step, &wanted, room, out)?;
-    // A refused block is answered by its number, a show changes nothing, and a
-    // change of surface that code alone.
+    // A refused block is answered by its number, and a show changes nothing.
     let told = |answer: &[u8]| wanted.answer.starts_with(answer);
-    let kept = wanted.stop || told(b"no=") || told(b"ok=show") || told(b"ok=surface");
-    let expected_words = words::on_surface(&before, expected.0.road.surface);
-    require(!kept || *lane == expected_words, "a word is changed")?;
+    let kept = wanted.stop || told(b"no=") || told(b"ok=show");
+    require(!kept || *lane == before, "a word is changed")?;
     let same = settled(&words::lane(lane)) == settled(&expected.0);
     require(same, "another lane")?;
     Ok(wanted)
