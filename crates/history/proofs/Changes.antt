@@ -4,6 +4,7 @@ use mathlib.Core.Bool.{Bool, true, false}
 use mathlib.Core.List.{List, _∷_, _++_}
 use Prim.Native.Nat.{ℕ, suc, _≤_, _<_}
 use lib.ListN.{length}
+use Rattle.lane.specs.Limits.{lastSurface}
 use Rattle.lane.specs.State.{State}
 use Rattle.lane.specs.Layout.{Words, stateOf}
 use Rattle.lane.specs.Rules.{broken}
@@ -21,22 +22,23 @@ use Rattle.history.proofs.Rows.{parts, chain-surface-serves}
 -- what is said of one change that answers so
 abbrev Exactly : Book → (code number : ℕ) → Type 0
 Exactly b code number =
-    (((i : ℕ) → suc i < length (b .carriers) → SafeOn b code i) → number ≡ 0)
-    × ((i : ℕ) → suc i < length (b .carriers) → ¬ (SafeOn b code i) → number ≡ 34)
+    (lastSurface < code → number ≡ 1)
+    × (code ≤ lastSurface → ((i : ℕ) → suc i < length (b .carriers) → SafeOn b code i) → number ≡ 0)
+    × (code ≤ lastSurface → (i : ℕ) → suc i < length (b .carriers) → ¬ (SafeOn b code i) → number ≡ 34)
     × (code ≡ b .road .surface → number ≡ 0)
-    × (((i : ℕ) → suc i < length (b .carriers) → carrierAt b (suc i) .speed ≡ 0) → number ≡ 0)
+    × (code ≤ lastSurface → ((i : ℕ) → suc i < length (b .carriers) → carrierAt b (suc i) .speed ≡ 0) → number ≡ 0)
 
-exactly : (s : State) (code : ℕ) → ¬ (callNo (surface-call code) s ≡ 21) → code ≤ 7 → Exactly (bookOf s) code (callNo (surface-call code) s)
-exactly s code passes known = by-rules (broken s) refl
+exactly : (s : State) (code : ℕ) → ¬ (callNo (surface-call code) s ≡ 21) → Exactly (bookOf s) code (callNo (surface-call code) s)
+exactly s code passes = by-rules (broken s) refl
   where
     by-rules : (t : Bool) → broken s ≡ t → Exactly (bookOf s) code (callNo (surface-call code) s)
     by-rules true e = absurd (passes (surface-answers s code .0 e))
     by-rules false e =
         let told = surface-answers s code in
-        (told .2 e known, told .3 e known, λ same. ap (λ (n : ℕ). callNo (surface-call n) s) same ∙ surface-in-force s e, surface-standing s code e known)
+        (told .1 e, told .2 e, told .3 e, λ same. ap (λ (n : ℕ). callNo (surface-call n) s) same ∙ surface-in-force s e, surface-standing s code e)
 
 chain-surface-exactly : {l d : Words} {es : List Event} → stateOf l .count ≡ 0 → Chain l es d → SurfaceExactly l es
-chain-surface-exactly {l} {d} none c before change later code is is-change passes known =
+chain-surface-exactly {l} {d} none c before change later code is is-change passes =
     let two = parts before (subst (λ (es : List Event). Chain l es d) is c) in
     subst (λ (b : Book). Exactly b code (change .answer .number)) (agrees-after (begun l) (empty-agrees l none) (two .0) .same) (at-head (two .1))
   where
@@ -47,7 +49,7 @@ chain-surface-exactly {l} {d} none c before change later code is is-change passe
     at-head (chain-next g w r) =
         let number : change .answer .number ≡ callNo (surface-call code) s =
         ap (λ (a : Answer). a .number) (g .answer) ∙ answer-number (change .call) s ∙ ap (λ (x : Call). callNo x s) is-change in
-        subst (Exactly (bookOf s) code) (sym number) (exactly s code (λ z. passes (number ∙ z)) known)
+        subst (Exactly (bookOf s) code) (sym number) (exactly s code (λ z. passes (number ∙ z)))
 
 pub chain-surface-changes : {l d : Words} {es : List Event} → stateOf l .count ≡ 0 → Chain l es d → SurfaceChanges l es
 chain-surface-changes none c = (chain-surface-exactly none c, chain-surface-serves c)

@@ -12,6 +12,7 @@ use Rattle.lane.specs.declared.Entered.{Entered}
 use Rattle.lane.specs.declared.Listed.{Listed}
 use Rattle.lane.specs.declared.ReadOut.{ReadOut}
 use Rattle.lane.specs.declared.Road.{Road}
+use Rattle.lane.specs.Limits.{lastSurface}
 use Rattle.lane.specs.Surface.{rowOf, rowIn}
 use Rattle.lane.specs.Layout.{Words, stateOf}
 use Rattle.lane.specs.Table.{tableIn, rowsLoaded}
@@ -187,19 +188,20 @@ LoadedRowsServe es =
     → start .call ≡ start-call road first → start .answer .number ≡ 0 → NoneOf startsLane serving
     → stateOf (laneAfter (start .left) serving) .tables .inForce ≡ rowsLoaded (tableIn text)
 
--- T-05: "The change is accepted if the whole lane is safe under the new row and refused otherwise.": on a lane that 21 passes a change to a code that
--- there is gives 0 where the book's carriers are all safe, 34 where one is not; and so 0 for the code that the book has already, and 0 where
--- nobody behind the foremost moves
+-- T-05: "The change is accepted if the whole lane is safe under the new row and refused otherwise.", and "34 .., after 21 and 1": on a lane that 21
+-- passes a change to a code above 7 gives 1, to another 0 where the book's carriers are all safe, 34 where one is not; and so 0 for the code that the
+-- book has already, and 0 where nobody behind the foremost moves
 abbrev pub SurfaceExactly : Words → List Event → Type 0
 SurfaceExactly l es =
     (before : List Event) (change : Event) (later : List Event) (code : ℕ)
     → es ≡ before ++ (change ∷ later)
-    → change .call ≡ surface-call code → ¬ (change .answer .number ≡ 21) → code ≤ 7
+    → change .call ≡ surface-call code → ¬ (change .answer .number ≡ 21)
     → let b = bookOn (begun l) before in
-    (((i : ℕ) → suc i < length (b .carriers) → SafeOn b code i) → change .answer .number ≡ 0)
-    × ((i : ℕ) → suc i < length (b .carriers) → ¬ (SafeOn b code i) → change .answer .number ≡ 34)
+    (lastSurface < code → change .answer .number ≡ 1)
+    × (code ≤ lastSurface → ((i : ℕ) → suc i < length (b .carriers) → SafeOn b code i) → change .answer .number ≡ 0)
+    × (code ≤ lastSurface → (i : ℕ) → suc i < length (b .carriers) → ¬ (SafeOn b code i) → change .answer .number ≡ 34)
     × (code ≡ b .road .surface → change .answer .number ≡ 0)
-    × (((i : ℕ) → suc i < length (b .carriers) → carrierAt b (suc i) .speed ≡ 0) → change .answer .number ≡ 0)
+    × (code ≤ lastSurface → ((i : ℕ) → suc i < length (b .carriers) → carrierAt b (suc i) .speed ≡ 0) → change .answer .number ≡ 0)
 
 -- T-05, "to change the surface code between cycles": after an accepted change and a list in which no call puts another, the lane has its code, and
 -- the row in force is that of the code among the rows that were in force before it
