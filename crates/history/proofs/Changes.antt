@@ -1,7 +1,7 @@
 -- A change of surface along a history: by the book it is accepted exactly where the lane is safe under the new row, and it serves until the next.
 use mathlib.Core.Path.{_≡_, refl, sym, ap, _∙_, subst}
 use mathlib.Core.Bool.{Bool, true, false}
-use mathlib.Core.List.{List, _∷_, _++_}
+use mathlib.Core.List.{List, _∷_}
 use Prim.Native.Nat.{ℕ, suc, _≤_, _<_}
 use lib.ListN.{length}
 use Rattle.lane.specs.Limits.{lastSurface}
@@ -13,7 +13,7 @@ use Rattle.lane.proofs.CallLaws.{answer-number}
 use Rattle.lane.proofs.SurfaceLaws.{surface-in-force, surface-answers, surface-standing}
 use Rattle.history.specs.Book.{Book, begun}
 use Rattle.history.specs.Claims.{carrierAt, SafeOn}
-use Rattle.history.specs.History.{Event, bookOn, laneAfter, Ran, Chain, chain-next, SurfaceExactly, SurfaceChanges}
+use Rattle.history.specs.History.{Event, laneAfter, Ran, Chain, chain-next, SurfaceExactly, SurfaceChanges}
 use Rattle.history.proofs.Agreement.{empty-agrees}
 use Rattle.history.proofs.CycleRuns.{bookOf}
 use Rattle.history.proofs.History.{ran-gives, agrees-after}
