@@ -67,7 +67,9 @@ lines-wished : (k : Kind) (t : List ℕ) → WishedIn (linesOf k t)
 unfolding startLines enterLines leaveLines surfaceLines cycleLines showCall
 lines-wished Start t =
     field-wished _ _ t _ λ surface t. field-wished _ _ t _ λ end t. field-wished _ _ t _ λ limit t. field-wished _ _ t _ λ first t. wished tt
-lines-wished Enter t = field-wished _ _ t _ λ car t. field-wished _ _ t _ λ at t. field-wished _ _ t _ λ speed t. field-wished _ _ t _ λ length t. wished tt
+lines-wished Enter t =
+    field-wished _ _ t _ λ car t. field-wished _ _ t _ λ at t. field-wished _ _ t _ λ speed t. field-wished _ _ t _ λ length t.
+    field-wished _ _ t _ λ brake t. wished tt
 lines-wished Leave t = field-wished _ _ t _ λ car t. wished tt
 lines-wished Cycle t = field-wished _ _ t _ λ cars t. wants-wished cars t _ λ ws t. wished λ h. omega (arith, sixty-four ws)
 lines-wished Show t = wished tt

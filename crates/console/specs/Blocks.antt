@@ -15,7 +15,7 @@ use Rattle.wish.specs.Units.{unitsOf}
 use Rattle.wish.specs.declared.Wish.{Wish}
 use Rattle.wish.specs.declared.Wish.the-variants.{Units, Acceleration, TargetSpeed, Hold}
 use Rattle.lane.specs.Limits.{mostCarriers, longestText}
-use Rattle.lane.specs.Listing.{carKey, carMost, atKey, atMost, speedKey, speedMost, lengthKey, lengthMost}
+use Rattle.lane.specs.Listing.{carKey, carMost, atKey, atMost, speedKey, speedMost, lengthKey, lengthMost, brakeKey, brakeMost}
 use Rattle.lane.specs.Call.{Call, start-call, enter-call, leave-call, surface-call, cycle-call, text-call}
 use Rattle.console.specs.declared.blocks.Kind.{Kind}
 use Rattle.console.specs.declared.blocks.Kind.the-variants.{Start, Enter, Leave, Cycle, Show, Surface, Unknown}
@@ -58,11 +58,13 @@ startLines t =
     field (ascii "surface=") bits32 t (λ surface t. field (ascii "end=") bits32 t (λ end t. field (ascii "limit=") bits32 t (λ limit t.
     field (ascii "cycle=") bits64 t (λ first t. parsed (start-call (record { surface = surface; end = end; limit = limit }) first) 0))))
 
--- "`call=enter`, `car`, `at`, `speed`"; document 02, T-03: "a line `length=` (32 bits) after `speed`": a carrier's lines, as in the lane text
+-- "`call=enter`, `car`, `at`, `speed`"; document 02, T-03: "a line `length=` (32 bits) after `speed`"; T-06: "a line `brake=`
+-- (32 bits) after `length`": a carrier's lines, as in the lane text
 unfoldable pub enterLines : List ℕ → Parsed
 enterLines t =
     field carKey carMost t (λ car t. field atKey atMost t (λ at t. field speedKey speedMost t (λ speed t. field lengthKey lengthMost t (λ length t.
-    parsed (enter-call (record { number = car; position = at; speed = speed; length = length })) 0))))
+    field brakeKey brakeMost t (λ brake t.
+    parsed (enter-call (record { number = car; position = at; speed = speed; length = length; rate = brake })) 0)))))
 
 -- "`call=leave`, `car`"
 unfoldable pub leaveLines : List ℕ → Parsed

@@ -56,7 +56,8 @@ fn enter_block(l: &mut Lane, input: &[u8], at: usize, first: usize, out: &mut [u
     let position = text::read_field(input, car.next, &lane::AT, BITS32);
     let speed = text::read_field(input, position.next, &lane::SPEED, BITS32);
     let length = text::read_field(input, speed.next, &lane::LENGTH, BITS32);
-    if !(car.ok & position.ok & speed.ok & length.ok) {
+    let brake = text::read_field(input, length.next, &lane::BRAKE, BITS32);
+    if !(car.ok & position.ok & speed.ok & length.ok & brake.ok) {
         return refused(at, 8, true, out);
     }
     let c = Carrier {
@@ -64,8 +65,9 @@ fn enter_block(l: &mut Lane, input: &[u8], at: usize, first: usize, out: &mut [u
         position: position.value,
         speed: speed.value,
         length: length.value,
+        rate: brake.value,
     };
-    run_enter(l, c, length.next, out)
+    run_enter(l, c, brake.next, out)
 }
 
 fn leave_block(l: &mut Lane, input: &[u8], at: usize, first: usize, out: &mut [u8]) -> Stepped

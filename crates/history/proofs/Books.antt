@@ -19,11 +19,11 @@ use Rattle.wish.specs.declared.Wish.{Wish}
 use Rattle.wish.specs.declared.Wish.the-variants.{Hold}
 use Rattle.lane.specs.declared.Carrier.{Carrier}
 use Rattle.lane.specs.Surface.{rowIn}
-use Rattle.lane.specs.Safety.{guaranteedRate, firstPlace, numbered}
+use Rattle.lane.specs.Safety.{firstPlace, numbered}
 use Rattle.lane.specs.Calls.{none, insertAt, placeOf, removeAt}
 use Rattle.lane.proofs.CallLaws.{place-nobody, place-here, place-further}
 use Rattle.lane.proofs.CycleLaws.{Drove, nobody-drives, stays-on, is-gone}
-use Rattle.history.specs.Book.{Book, putIn, takeOut, unitsFrom, trimmedIn, drivenIn, drivenOn}
+use Rattle.history.specs.Book.{Book, putIn, takeOut, unitsFrom, trimmedIn, guaranteedIn, drivenIn, drivenOn}
 use Rattle.history.specs.Claims.{isReplaced}
 
 -- ---- enter
@@ -71,7 +71,7 @@ module _ (b : Book) where
   -- what the carrier at a place drives goes by the word's bit of that place
   pub driven-at : (word : ℕ) (cs : List Carrier) (ws : List Wish) (i : ℕ) → i < length cs → length cs ≤ length ws
       → getD (drivenIn b word cs ws) i (pos 0)
-      ≡ cond (isReplaced word i) (braking (guaranteedRate (rowIn (b .tables) (b .road)) (getD cs i none)) (getD cs i none .speed)) (trimmedIn b (getD cs i none) (getD ws i Hold))
+      ≡ cond (isReplaced word i) (braking (guaranteedIn b (getD cs i none)) (getD cs i none .speed)) (trimmedIn b (getD cs i none) (getD ws i Hold))
   unfolding drivenIn
   driven-at word [] ws i p h = absurd (omega arith)
   driven-at word (c ∷ cs) [] i p h = absurd (omega arith)
@@ -87,8 +87,8 @@ module _ (b : Book) where
   driven-at-least word (c ∷ cs) [] i = resting (getD (c ∷ cs) i none .speed)
   driven-at-least word (c ∷ cs) (w ∷ ws) zero = by-bit (eqb (word % 2) 1)
     where
-      by-bit : (t : Bool) → negℤ (pos (c .speed)) ≤ℤ cond t (braking (guaranteedRate (rowIn (b .tables) (b .road)) c) (c .speed)) (trimmedIn b c w)
-      by-bit true = not-past-rest (guaranteedRate (rowIn (b .tables) (b .road)) c) (c .speed) _ (≤ℤ-refl _)
+      by-bit : (t : Bool) → negℤ (pos (c .speed)) ≤ℤ cond t (braking (guaranteedIn b c) (c .speed)) (trimmedIn b c w)
+      by-bit true = not-past-rest (guaranteedIn b c) (c .speed) _ (≤ℤ-refl _)
       by-bit false =
           let r = rowIn (b .tables) (b .road) in
           not-past-rest (r .hardest) (c .speed) (trimmedIn b c w)

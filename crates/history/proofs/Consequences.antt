@@ -1,33 +1,32 @@
 -- What a reader may take from `history`: at each call of the list, and in plain words; and that a lane once started never breaks a rule.
 use mathlib.Core.Path.{_≡_, refl, sym, ap, _∙_, subst}
-use mathlib.Core.Bool.{Bool, true, false, not, _&&_, _||_, true≢false}
+use mathlib.Core.Bool.{Bool, true, false, not, _&&_, _||_, cond, true≢false}
 use mathlib.Core.List.{List, [], _∷_, _++_}
-use Prim.Native.Nat.{ℕ, suc, _+_, _-_, _*_, _/_, _%_, _^_, _≤_, _<_}
+use Prim.Native.Nat.{ℕ, suc, _+_, _-_, _*_, _/_, _%_, _^_, _≤_, _<_, min}
 use native.Mathlib.Nat.{div-one}
 use native.Mathlib.Omega.{arith}
 use borrow.Author.Tests.{lt-ltb, le-ltb, ltb-true, ltb-false}
 use lib.Dec.{eqb, ltb, ltb→lt}
 use lib.ListN.{length, getD}
-use lib.IntN.{ℤ, pos, _+ℤ_, _*ℤ_}
+use lib.IntN.{ℤ, pos, negℤ, _+ℤ_, _*ℤ_}
 use lib.Signed.{_<ℤ_, <ℤ-irrefl}
 use Rattle.headway.specs.Motion.{positionAfter}
 use Rattle.headway.specs.Wishes.{restsBehind}
-use Rattle.headway.proofs.Laws.{fraction-form, fraction-at-start, fraction-at-end}
+use Rattle.headway.proofs.Laws.{fraction-form, fraction-at-start, fraction-at-end, braking-is}
 use Rattle.wish.specs.declared.Wish.{Wish}
 use Rattle.wish.specs.declared.Wish.the-variants.{Hold}
 use Rattle.lane.specs.declared.Carrier.{Carrier}
 use Rattle.lane.specs.declared.Road.{Road}
 use Rattle.lane.specs.Surface.{rowIn}
 use Rattle.lane.specs.Layout.{Words, stateOf}
-use Rattle.lane.specs.Safety.{guaranteedRate}
 use Rattle.lane.specs.Calls.{none}
 use Rattle.lane.specs.Call.{Call, start-call, cycle-call, read-call, Answer, callNo, Kept}
 use Rattle.lane.proofs.CallLaws.{answer-number, kept-not-21}
-use Rattle.history.specs.Book.{Seen, Book, begun, trimmedIn, drivenIn, booked}
+use Rattle.history.specs.Book.{Seen, Book, begun, trimmedIn, guaranteedIn, drivenIn, booked}
 use Rattle.history.specs.Claims.{Kind, begins, loads, surfaces, runs, other, kindOf, carrierAt, placeAt, restsLevelOrCrossed, Claims}
 use Rattle.history.specs.History.{Event, callsIn, seen, bookOn, Ran, Typed, AllTyped, startsLane, Chain, chain-end, chain-next, Throughout, SurfaceChanges, NeverBroken}
 use Rattle.history.proofs.Bits.{below-power}
-use Rattle.history.proofs.Books.{driven-at-least}
+use Rattle.history.proofs.Books.{driven-at, driven-at-least}
 use Rattle.history.proofs.Fronts.{front-below}
 use Rattle.history.proofs.Lasting.{goes-on}
 use Rattle.history.proofs.History.{ran-gives, history}
@@ -48,6 +47,7 @@ pub record SameCarrier (c d : Carrier) : Type 0 where
   pub position : c .position ≡ d .position
   pub speed : c .speed ≡ d .speed
   pub length : c .length ≡ d .length
+  pub rate : c .rate ≡ d .rate
 
 pub as-many : (after : Words) (s : Seen) (b : Book) → Claims after s b → length (stateOf after .carriers) ≡ length (booked s b .carriers)
 as-many after s b c = ap length (c .carriers)
@@ -65,6 +65,7 @@ at-each-place after s b c i =
       position = ap (λ (cs : List Carrier). getD cs i none .position) (c .carriers);
       speed = ap (λ (cs : List Carrier). getD cs i none .speed) (c .carriers);
       length = ap (λ (cs : List Carrier). getD cs i none .length) (c .carriers);
+      rate = ap (λ (cs : List Carrier). getD cs i none .rate) (c .carriers);
     }
 
 -- no two carriers of the book are level
@@ -111,6 +112,13 @@ module _ (after : Words) (count word : ℕ) (ws : List Wish) (b : Book)
   abbrev pub driven : ℕ → ℤ
   driven i = getD (drivenIn b word (b .carriers) ws) i (pos 0)
 
+  -- its trimmed wish, or where that is replaced −(smaller of g and v), g being "the smaller of its own rate and the row's b"
+  pub drives-as-told : (i : ℕ) → i < length (b .carriers) → length (b .carriers) ≤ length ws
+      → driven i
+      ≡ cond (eqb (word / 2 ^ i % 2) 1) (negℤ (pos (min (min (carrierAt b i .rate) (rowIn (b .tables) (b .road) .guaranteed)) (carrierAt b i .speed))))
+      (trimmedIn b (carrierAt b i) (getD ws i Hold))
+  drives-as-told i p enough = driven-at b word (b .carriers) ws i p enough ∙ rw (braking-is (guaranteedIn b (carrierAt b i)) (carrierAt b i .speed)) refl
+
   module _ (i j : ℕ) (p : i < j) (q : j < length (b .carriers)) where
     -- at every fraction each is below every one ahead, in the document's own form: "n² times the position is n²p + 2vkn + ak²"
     pub below-within : (n k : ℕ) → 1 ≤ n → k ≤ n
@@ -153,7 +161,7 @@ module _ (after : Words) (count word : ℕ) (ws : List Wish) (b : Book)
 
   pub replaced-exactly : (i : ℕ) → 0 < i → i < length (b .carriers)
       → eqb (word / 2 ^ i % 2) 1
-      ≡ not (restsBehind (guaranteedRate (rowIn (b .tables) (b .road)) (carrierAt b i)) (rowIn (b .tables) (b .road) .hardest) (carrierAt b i .position + carrierAt b (i - 1) .length) (carrierAt b i .speed) (trimmedIn b (carrierAt b i) (getD ws i Hold)) (carrierAt b (i - 1) .position) (carrierAt b (i - 1) .speed))
+      ≡ not (restsBehind (min (carrierAt b i .rate) (rowIn (b .tables) (b .road) .guaranteed)) (rowIn (b .tables) (b .road) .hardest) (carrierAt b i .position + carrierAt b (i - 1) .length) (carrierAt b i .speed) (trimmedIn b (carrierAt b i) (getD ws i Hold)) (carrierAt b (i - 1) .position) (carrierAt b (i - 1) .speed))
   unfolding restsLevelOrCrossed
   replaced-exactly i p q = c .cycle-run .1 i ∙ rw (lt-ltb 0 i p, lt-ltb i (length (b .carriers)) q) refl
 

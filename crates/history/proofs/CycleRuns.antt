@@ -14,10 +14,9 @@ use Rattle.headway.specs.Wishes.{restsBehind}
 use Rattle.wish.specs.declared.Wish.{Wish}
 use Rattle.lane.specs.declared.Carrier.{Carrier}
 use Rattle.lane.specs.Surface.{rowIn}
-use Rattle.lane.specs.Safety.{guaranteedRate}
 use Rattle.lane.specs.State.{State}
 use Rattle.lane.proofs.CycleLaws.{CycleRun, carrierOf, wishOf}
-use Rattle.history.specs.Book.{Book, trimmedIn, drivenIn, drivenOn}
+use Rattle.history.specs.Book.{Book, trimmedIn, guaranteedIn, drivenIn, drivenOn}
 use Rattle.history.specs.Claims.{NeverTouching, ReplacedWhenCrossing, restsLevelOrCrossed, isReplaced}
 use Rattle.history.proofs.Books.{driven-length, driven-at, driven-on}
 
@@ -37,7 +36,7 @@ module _ (s : State) (ws : List Wish) (word : ℕ) (after : List Carrier) (r : C
       ext-getD (pos 0) _ _ (driven-length (bookOf s) word (s .carriers) ws (r .enough) ∙ sym (r .as-many)) λ i h.
       let here : i < length (s .carriers) = omega (arith, driven-length (bookOf s) word (s .carriers) ws (r .enough)) in
       driven-at (bookOf s) word (s .carriers) ws i here (r .enough)
-      ∙ ap (cond (isReplaced word i) (braking (guaranteedRate (rowIn (s .tables) (s .road)) (carrierOf s i)) (carrierOf s i .speed))) (same-wish i here)
+      ∙ ap (cond (isReplaced word i) (braking (guaranteedIn (bookOf s) (carrierOf s i)) (carrierOf s i .speed))) (same-wish i here)
       ∙ sym (r .drives-as-told i here)
 
   pub run-carriers : after ≡ drivenOn (s .road .end) (s .carriers) (drivenIn (bookOf s) word (s .carriers) ws)
@@ -51,7 +50,7 @@ module _ (s : State) (ws : List Wish) (word : ℕ) (after : List Carrier) (r : C
   run-replaces-crossing i = r .replaces i ∙ ap (λ (t : Bool). ltb 0 i && t) (by-test (ltb i (length (s .carriers))) refl)
     where
       rests : ℤ → Bool
-      rests w = restsBehind (guaranteedRate (rowIn (s .tables) (s .road)) (carrierOf s i)) (rowIn (s .tables) (s .road) .hardest) (carrierOf s i .position + carrierOf s (i - 1) .length) (carrierOf s i .speed) w (carrierOf s (i - 1) .position) (carrierOf s (i - 1) .speed)
+      rests w = restsBehind (guaranteedIn (bookOf s) (carrierOf s i)) (rowIn (s .tables) (s .road) .hardest) (carrierOf s i .position + carrierOf s (i - 1) .length) (carrierOf s i .speed) w (carrierOf s (i - 1) .position) (carrierOf s (i - 1) .speed)
 
       by-test : (t : Bool) → ltb i (length (s .carriers)) ≡ t → t && not (rests (r .trimmed i)) ≡ t && not (rests (trimmedIn (bookOf s) (carrierOf s i) (wishOf ws i)))
       by-test true e = ap (λ (w : ℤ). not (rests w)) (sym (same-wish i (ltb-true i (length (s .carriers)) e)))

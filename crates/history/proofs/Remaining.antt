@@ -1,4 +1,4 @@
--- Who is on the lane after a cycle run: each with its number and its length, where the cycle led it, and gone by its tail alone.
+-- Who is on the lane after a cycle run: each with its number, its length and its own rate, where the cycle led it, and gone by its tail alone.
 use mathlib.Core.Path.{_≡_, refl}
 use mathlib.Core.Bool.{Bool, true, false, cond}
 use mathlib.Core.List.{List, [], _∷_}
@@ -21,7 +21,13 @@ use Rattle.history.proofs.Books.{driven-length}
 -- a carrier after a cycle in which it drives a
 abbrev pub drivenTo : Carrier → ℤ → Carrier
 drivenTo c a =
-    record { number = c .number; position = positionAfter (c .position) (c .speed) a; speed = speedAfter (c .speed) a; length = c .length }
+    record {
+      number = c .number;
+      position = positionAfter (c .position) (c .speed) a;
+      speed = speedAfter (c .speed) a;
+      length = c .length;
+      rate = c .rate;
+    }
 
 module _ (end : ℕ) where
   -- of carriers cs that drive ds, the one at a place, if its tail is then before the end
@@ -86,7 +92,7 @@ module _ (after : Words) (count word : ℕ) (ws : List Wish) (b : Book)
   abbrev pub led : ℕ → Carrier
   led i = drivenTo (carrierAt b i) (getD driven i (pos 0))
 
-  -- whose tail is then before the end is on the lane, with its number and its length, where the cycle led it,
+  -- whose tail is then before the end is on the lane, with its number, its length and its own rate, where the cycle led it,
   pub still-there : length (b .carriers) ≤ length ws → (i : ℕ) → i < length (b .carriers) → led i .position < b .road .end + carrierAt b i .length
       → (j : ℕ) × (j < length (stateOf after .carriers)) × (getD (stateOf after .carriers) j none ≡ led i)
   unfolding taken

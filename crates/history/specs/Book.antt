@@ -1,5 +1,6 @@
--- Document 01, "The road book": "It says where carriers that drive as told are." It has a walk, a trimming and a motion of its own.
-use Prim.Native.Nat.{ℕ, _+_, _/_, _%_}
+-- Document 01, "The road book": "It says where carriers that drive as told are." It has a walk, a trimming, a
+-- braking and a motion of its own.
+use Prim.Native.Nat.{ℕ, _+_, _/_, _%_, min}
 use mathlib.Core.Bool.{Bool, cond}
 use mathlib.Core.List.{List, [], _∷_}
 use lib.Dec.{eqb, leb, ltb}
@@ -14,7 +15,6 @@ use Rattle.wish.specs.declared.Wish.{Wish}
 use Rattle.lane.specs.declared.Carrier.{Carrier}
 use Rattle.lane.specs.declared.Road.{Road}
 use Rattle.lane.specs.Surface.{Tables, rowIn}
-use Rattle.lane.specs.Safety.{guaranteedRate}
 use Rattle.lane.specs.Layout.{Words, stateOf}
 use Rattle.lane.specs.Table.{tableIn, rowsLoaded}
 use Rattle.lane.specs.Call.{Call, start-call, load-call, enter-call, leave-call, surface-call, cycle-call, read-call, text-call}
@@ -26,7 +26,8 @@ pub record Seen : Type 0 where
   pub word : ℕ
 
 -- "It holds surface, end, limit and the carriers front to back, each with number, position and speed."; document 02, T-01: "The road book holds
--- the rows in force and those for the next start too"; T-03: "Each entry gains a length", which the carrier keeps
+-- the rows in force and those for the next start too"; T-03: "Each entry gains a length"; T-06: "Each entry names the carrier's own
+-- rate"; the carrier keeps both
 pub record Book : Type 0 where
   pub road : Road
   pub tables : Tables
@@ -71,12 +72,16 @@ unfoldable pub trimmedIn : Book → Carrier → Wish → ℤ
 trimmedIn b c w =
     trimmedTo (unitsFrom (unitsOf w (c .speed))) (c .speed) (rowIn (b .tables) (b .road) .hardest) (rowIn (b .tables) (b .road) .most) (b .road .limit)
 
--- "or −(smaller of b and v) where bit i is set": the accelerations of the carriers, front to back; place 0 has the lowest bit
+-- T-06: "Its guaranteed braking is the smaller of its own rate and the row's b, everywhere that b stood.", by the book's figures
+abbrev pub guaranteedIn : Book → Carrier → ℕ
+guaranteedIn b c = min (c .rate) (rowIn (b .tables) (b .road) .guaranteed)
+
+-- "or −(smaller of b and v) where bit i is set", of the carrier's guaranteed braking: the accelerations of the carriers, front to back; place 0 has the lowest bit
 unfoldable pub drivenIn : Book → (word : ℕ) → List Carrier → List Wish → List ℤ
 drivenIn b word [] ws = []
 drivenIn b word (c ∷ cs) [] = []
 drivenIn b word (c ∷ cs) (w ∷ ws) =
-    cond (eqb (word % 2) 1) (braking (guaranteedRate (rowIn (b .tables) (b .road)) c) (c .speed)) (trimmedIn b c w)
+    cond (eqb (word % 2) 1) (braking (guaranteedIn b c) (c .speed)) (trimmedIn b c w)
     ∷ drivenIn b (word / 2) cs ws
 
 -- "Cycle: carrier i drives"; "After the whole cycle, whoever is at or past the end comes out."; T-03: "gone once its tail is at or past the end"
@@ -86,7 +91,7 @@ drivenOn end (c ∷ cs) [] = []
 drivenOn end (c ∷ cs) (d ∷ ds) =
     let position = positionAfter (c .position) (c .speed) d in
     cond (leb (end + c .length) position) (drivenOn end cs ds)
-    (record { number = c .number; position = position; speed = speedAfter (c .speed) d; length = c .length } ∷ drivenOn end cs ds)
+    (record { number = c .number; position = position; speed = speedAfter (c .speed) d; length = c .length; rate = c .rate } ∷ drivenOn end cs ds)
 
 -- the step of a call that is not refused; "Start: it takes surface, end and limit and drops all carriers."; T-01: "a start puts them in force"
 unfoldable pub taken : Call → (word : ℕ) → Book → Book

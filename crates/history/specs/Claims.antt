@@ -1,5 +1,5 @@
 -- Demand 3, over the road book: what holds after each call of a history, and in each cycle run.
-use Prim.Native.Nat.{ℕ, suc, _+_, _-_, _*_, _/_, _%_, _^_, _≤_, _<_}
+use Prim.Native.Nat.{ℕ, suc, _+_, _-_, _*_, _/_, _%_, _^_, _≤_, _<_, min}
 use mathlib.Core.Path.{_≡_}
 use mathlib.Core.Bool.{Bool, true, false, not, _&&_}
 use mathlib.Core.List.{List}
@@ -16,10 +16,9 @@ use Rattle.lane.specs.declared.Carrier.{Carrier}
 use Rattle.lane.specs.declared.Road.{Road}
 use Rattle.lane.specs.Surface.{rowOf, rowIn}
 use Rattle.lane.specs.Layout.{Words, stateOf}
-use Rattle.lane.specs.Safety.{guaranteedRate}
 use Rattle.lane.specs.Calls.{none}
 use Rattle.lane.specs.Call.{Call, start-call, load-call, enter-call, leave-call, surface-call, cycle-call, read-call, text-call}
-use Rattle.history.specs.Book.{Seen, Book, trimmedIn, drivenIn, booked}
+use Rattle.history.specs.Book.{Seen, Book, trimmedIn, guaranteedIn, drivenIn, booked}
 
 -- the carrier at a place: "Ahead means nearer the book's front; next ahead, the place just before."
 abbrev pub carrierAt : Book → ℕ → Carrier
@@ -44,15 +43,15 @@ NeverTouching b word ws =
 
 -- "Resting level or crossed means, with w the trimmed wish and S the sum of the positions gained until rest, that
 -- p + 2v + w + S(b, v + w) isn't below p of the carrier next ahead + S(B, its v), with p and v as in the book at that cycle's start."; T-03: "a
--- replaced wish is one that would have rested level with or past the tail of the one ahead", whose length is added on this side.
--- A carrier with none ahead, and a place with no carrier, has no such case.
+-- replaced wish is one that would have rested level with or past the tail of the one ahead", whose length is added on this side;
+-- T-06: b is the carrier's guaranteed braking, and B the row's. A carrier with none ahead, and a place with no carrier, has no such case.
 unfoldable pub restsLevelOrCrossed : Book → List Wish → ℕ → Bool
 restsLevelOrCrossed b ws i =
     let c = carrierAt b i in
     let ahead = carrierAt b (i - 1) in
     ltb 0 i
     && (ltb i (length (b .carriers))
-    && not (restsBehind (guaranteedRate (rowIn (b .tables) (b .road)) c) (rowIn (b .tables) (b .road) .hardest) (c .position + ahead .length) (c .speed) (trimmedIn b c (getD ws i Hold)) (ahead .position) (ahead .speed)))
+    && not (restsBehind (guaranteedIn b c) (rowIn (b .tables) (b .road) .hardest) (c .position + ahead .length) (c .speed) (trimmedIn b c (getD ws i Hold)) (ahead .position) (ahead .speed)))
 
 -- "Replaced means that the wish's bit is set."
 abbrev pub isReplaced : (word i : ℕ) → Bool
@@ -63,14 +62,14 @@ abbrev pub ReplacedWhenCrossing : Book → (word : ℕ) → List Wish → Type 0
 ReplacedWhenCrossing b word ws = (i : ℕ) → isReplaced word i ≡ restsLevelOrCrossed b ws i
 
 -- document 02, T-05, "safe under the new row": in the book the carrier behind place i is safe behind the one there by the row of a code among those
--- in force
+-- in force; T-06: with "the smaller of its own rate and the row's b" of the one behind, and the row's B of the one ahead
 abbrev pub SafeOn : Book → (code i : ℕ) → Type 0
 SafeOn b code i =
     let r = rowOf (b .tables .inForce) code in
     let a = carrierAt b i in
     let c = carrierAt b (suc i) in
     (c .position + a .length < a .position)
-    × (c .position + a .length + stoppingDistance (r .guaranteed) (c .speed) < a .position + stoppingDistance (r .hardest) (a .speed))
+    × (c .position + a .length + stoppingDistance (min (c .rate) (r .guaranteed)) (c .speed) < a .position + stoppingDistance (r .hardest) (a .speed))
 
 -- what kind a call is of: a start, a load, a change of surface, a cycle, or another
 pub data Kind : Call → Type 0 where

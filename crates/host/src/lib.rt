@@ -24,7 +24,7 @@ use lane::Road;
 pub extern "C" fn rondavitse_version() -> u32
     ensures { λ r. ⌜ r ≡ version ⌝ }
 {
-    5
+    6
 }
 
 #[no_mangle]

@@ -16,7 +16,7 @@ use Rattle.lane.specs.Surface.{houseRows, rowOf, soundRow, unsoundBelow,
 use Rattle.lane.specs.Layout.{tableFrom, stateOf, emptyWords}
 use Rattle.lane.specs.State.{State}
 use Rattle.lane.specs.Safety.{leader, safeWith, laneSafe, anyOf, firstPlace, numbered}
-use Rattle.lane.specs.Rules.{outsideOf, badNumber, tooFast, tooLong, roadNo, newcomerNo, broken}
+use Rattle.lane.specs.Rules.{outsideOf, badNumber, tooFast, tooLong, badRate, roadNo, newcomerNo, broken}
 use Rattle.lane.specs.Wishes.{anyOutside}
 use Rattle.lane.specs.Table.{tableIn, badTable, rowsLoaded, loadNo, loadedState}
 use Rattle.lane.specs.Calls.{none, withCarriers, startNo, begunState, aheadOf, walk, gapNo, placeNo, enterNo, insertAt, enteredState, namedNo, placeOf, removeAt, leftState, readyNo, cycleNo, surfaceNo, surfacedState}
@@ -99,7 +99,7 @@ enter-check s c =
     (one-of b (not (safeWith r (aheadOf place (s .carriers)) c)) 25 _ refl
     (last-check b (ltb place (length (s .carriers)) && not (safeWith r (leader c) (getD (s .carriers) place none))) 26 refl))))
     (one-of b (badNumber (c .number)) 4 _ refl
-    (one-of b (leb (s .road .end) (c .position)) 5 _ refl (one-of b (tooFast (s .road) c) 6 _ refl (last-check b (tooLong c) 33 refl)))))
+    (one-of b (leb (s .road .end) (c .position)) 5 _ refl (one-of b (tooFast (s .road) c) 6 _ refl (one-of b (tooLong c) 33 _ refl (last-check b (badRate (c .rate)) 35 refl))))))
 
 surface-check : (s : State) (code : ℕ) → lawfulNo (broken s) (surfaceNo s code) ≡ true
 unfolding surfaceNo

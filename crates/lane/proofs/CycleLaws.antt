@@ -1,8 +1,8 @@
--- What an accepted cycle does, for the crates above: `CycleRun`, place by place, in words of headway and wish, and `guaranteedRate`.
+-- What an accepted cycle does, for the crates above: `CycleRun`, place by place, in words of headway and wish.
 use mathlib.Core.Path.{_≡_, refl, sym, ap, _∙_}
 use mathlib.Core.Bool.{Bool, true, false, not, _&&_, cond, true≢false}
 use mathlib.Core.List.{List, [], _∷_, map}
-use Prim.Native.Nat.{ℕ, zero, suc, _+_, _-_, _*_, _/_, _%_, _^_, _≤_, _<_}
+use Prim.Native.Nat.{ℕ, zero, suc, _+_, _-_, _*_, _/_, _%_, _^_, _≤_, _<_, min}
 use native.Mathlib.Omega.{arith}
 use borrow.Author.Tests.{leb-true, leb-false}
 use lib.Dec.{eqb, leb, ltb}
@@ -35,7 +35,7 @@ use Rattle.lane.proofs.lists.Words.{word-bit}
 use Rattle.lane.proofs.calls.Answers.{accepted-changes, accepted-answers, Ready, ready-tells, cycle-tells}
 use Rattle.lane.proofs.calls.Order.{aheadIn}
 use Rattle.lane.proofs.driving.Turns.{accelerationsIn, drives-at, never-touching, replaced-is}
-use Rattle.lane.proofs.checks.Soundness.{row-sound}
+use Rattle.lane.proofs.checks.Soundness.{rated-at, row-sound}
 
 -- ---- the words of the law
 
@@ -43,7 +43,7 @@ use Rattle.lane.proofs.checks.Soundness.{row-sound}
 pub data Drove (end : ℕ) : List Carrier → List ℤ → List Carrier → Type 0 where
   nobody-drives : Drove end [] [] []
   stays-on : {c : Carrier} {a : ℤ} {cs ds : List Carrier} {accs : List ℤ} → positionAfter (c .position) (c .speed) a < end + c .length → Drove end cs accs ds
-      → Drove end (c ∷ cs) (a ∷ accs) (record { number = c .number; position = positionAfter (c .position) (c .speed) a; speed = speedAfter (c .speed) a; length = c .length } ∷ ds)
+      → Drove end (c ∷ cs) (a ∷ accs) (record { number = c .number; position = positionAfter (c .position) (c .speed) a; speed = speedAfter (c .speed) a; length = c .length; rate = c .rate } ∷ ds)
   is-gone : {c : Carrier} {a : ℤ} {cs ds : List Carrier} {accs : List ℤ} → end + c .length ≤ positionAfter (c .position) (c .speed) a → Drove end cs accs ds
       → Drove end (c ∷ cs) (a ∷ accs) ds
 
@@ -74,12 +74,12 @@ pub record CycleRun (s : State) (ws : List Wish) (word : ℕ) (after : List Carr
   pub as-many : length accelerations ≡ length (s .carriers)
   pub drives-as-told : (i : ℕ) → i < length (s .carriers)
       → getD accelerations i (pos 0)
-      ≡ cond (bitSet word i) (braking (guaranteedRate (rowIn (s .tables) (s .road)) (carrierOf s i)) (carrierOf s i .speed)) (trimmed i)
+      ≡ cond (bitSet word i) (braking (min (carrierOf s i .rate) (rowIn (s .tables) (s .road) .guaranteed)) (carrierOf s i .speed)) (trimmed i)
   -- a wish is replaced exactly where the carrier would not rest behind the tail of the one next ahead
   pub replaces : (i : ℕ) → bitSet word i
       ≡ ltb 0 i
       && (ltb i (length (s .carriers))
-      && not (restsBehind (guaranteedRate (rowIn (s .tables) (s .road)) (carrierOf s i)) (rowIn (s .tables) (s .road) .hardest) (carrierOf s i .position + carrierOf s (i - 1) .length) (carrierOf s i .speed) (trimmed i) (carrierOf s (i - 1) .position) (carrierOf s (i - 1) .speed)))
+      && not (restsBehind (min (carrierOf s i .rate) (rowIn (s .tables) (s .road) .guaranteed)) (rowIn (s .tables) (s .road) .hardest) (carrierOf s i .position + carrierOf s (i - 1) .length) (carrierOf s i .speed) (trimmed i) (carrierOf s (i - 1) .position) (carrierOf s (i - 1) .speed)))
   pub leaves : Drove (s .road .end) (s .carriers) accelerations after
   -- at each fraction of the cycle each front is below the tail of every carrier ahead
   pub apart : (n k i j : ℕ) → 1 ≤ n → k ≤ n → i < j → j < length (s .carriers)
@@ -186,6 +186,7 @@ module _ (s : State) (counted : s .count ≡ length (s .carriers)) (count : ℕ)
       let r = rowIn (s .tables) (s .road) in
       let limit = s .road .limit in
       let sound = ready .sound in
+      let rated = rated-at (s .road) (s .carriers) (sound .carriers .lawful) in
       record {
         trimmed = λ i. trimmed r limit (carrierOf s i) (getD units i (pos 0));
         accelerations = accelerationsIn all;
@@ -203,10 +204,10 @@ module _ (s : State) (counted : s .count ≡ length (s .carriers)) (count : ℕ)
             rw (flag-at i, drives-at (λ d. d .replaced) false r limit nobody (s .carriers) units i h units-all)
             (drives-at (λ d. d .acceleration) (pos 0) r limit nobody (s .carriers) units i h units-all
             ∙ drive-as-told r limit (aheadIn nobody i (s .carriers)) (carrierOf s i) (getD units i (pos 0)));
-        replaces = λ i. flag-at i ∙ replaced-is r (row-sound sound) limit (s .carriers) units (sound .carriers .safe) units-all i;
+        replaces = λ i. flag-at i ∙ replaced-is r (row-sound sound) limit (s .carriers) units rated (sound .carriers .safe) units-all i;
         leaves =
             rw (accepted-changes (cycle-call count ws) s e)
             (left-of (s .road) (s .carriers) all (drives-length (λ d. d .acceleration) r limit nobody (s .carriers) units units-all));
         apart = λ n k i j hn hk p q.
-            never-touching r (row-sound sound) limit (s .carriers) units (sound .carriers .safe) units-all n k hn hk i j p q;
+            never-touching r (row-sound sound) limit (s .carriers) units rated (sound .carriers .safe) units-all n k hn hk i j p q;
       }

@@ -6,6 +6,7 @@ mod checks
 mod driving
 mod calls
 pub mod Newcomers
+pub mod EntryLaws
 pub mod Laws
 mod Cases
 mod Looked

@@ -59,10 +59,10 @@ module _ (number : ℕ) (cs : List Carrier) where
 
   -- a carrier with the number, and one with another
   abbrev namesake : Carrier
-  namesake = record { number = number; position = 0; speed = 0; length = 0 }
+  namesake = record { number = number; position = 0; speed = 0; length = 0; rate = 0 }
 
   abbrev stranger : Carrier
-  stranger = record { number = suc number; position = 0; speed = 0; length = 0 }
+  stranger = record { number = suc number; position = 0; speed = 0; length = 0; rate = 0 }
 
   abbrev Differs : ℕ → Carrier → Type 0
   Differs p c = ¬ (lookup number (set cs p c) .found ≡ lookup number cs .found)

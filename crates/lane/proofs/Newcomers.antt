@@ -1,6 +1,7 @@
--- An entry's own values in numbers: 5 is of its front, 33 of a length above 65,535 and after 6, and a tail before the start is let in.
+-- An entry's own values in numbers: 5 is of its front, 33 of a length above 65,535 and after 6, 35 of an own rate outside 1 to 255 and after 33, and a
+-- tail before the start is let in.
 use mathlib.Core.Path.{_≡_, refl}
-use mathlib.Core.Bool.{false, cond}
+use mathlib.Core.Bool.{false, _||_, cond}
 use mathlib.Core.List.{[]}
 use Prim.Native.Nat.{ℕ, _≤_, _<_}
 use borrow.Author.Tests.{le-ltb, lt-leb, ltb-false, leb-false}
@@ -9,13 +10,14 @@ use Rattle.lane.specs.declared.Carrier.{Carrier}
 use Rattle.lane.specs.declared.Road.{Road}
 use Rattle.lane.specs.State.{State}
 use Rattle.lane.specs.Safety.{safeWith, anyOf, firstPlace}
-use Rattle.lane.specs.Rules.{badNumber, tooFast, tooLong, newcomerNo, broken}
+use Rattle.lane.specs.Rules.{outsideOf, badNumber, tooFast, tooLong, badRate, newcomerNo, broken}
 use Rattle.lane.specs.Calls.{walk, gapNo, placeNo, enterNo}
 use Rattle.lane.proofs.lists.Passed.{passed}
 use Rattle.lane.proofs.lists.Tests.{neither}
 
-pub number-within : (n : ℕ) → badNumber n ≡ false → (1 ≤ n) × (n ≤ 65535)
-number-within n e = let t = neither (ltb n 1) (ltb 65535 n) e in (ltb-false n 1 (t .0), ltb-false 65535 n (t .1))
+-- ends included
+pub within : (low high n : ℕ) → outsideOf low high n ≡ false → (low ≤ n) × (n ≤ high)
+within low high n e = let t = neither (ltb n low) (ltb high n) e in (ltb-false n low (t .0), ltb-false high n (t .1))
 
 pub record Newcomer (road : Road) (c : Carrier) : Type 0 where
   pub number-least : 1 ≤ c .number
@@ -23,6 +25,8 @@ pub record Newcomer (road : Road) (c : Carrier) : Type 0 where
   pub front-before-end : c .position < road .end
   pub slow : c .speed ≤ road .limit
   pub short : c .length ≤ 65535
+  pub rate-least : 1 ≤ c .rate
+  pub rate-most : c .rate ≤ 255
 
 -- who passes its own checks is such a one,
 pub newcomer-is : (road : Road) (c : Carrier) → newcomerNo road c ≡ 0 → Newcomer road c
@@ -31,14 +35,18 @@ newcomer-is road c e =
     let number = passed (badNumber (c .number)) 3 _ e in
     let position = passed (leb (road .end) (c .position)) 4 _ (number .1) in
     let speed = passed (tooFast road c) 5 _ (position .1) in
-    let length = passed (tooLong c) 32 0 (speed .1) in
-    let within = number-within (c .number) (number .0) in
+    let length = passed (tooLong c) 32 _ (speed .1) in
+    let rate = passed (badRate (c .rate)) 34 0 (length .1) in
+    let numbers = within 1 65535 (c .number) (number .0) in
+    let rates = within 1 255 (c .rate) (rate .0) in
     record {
-      number-least = within .0;
-      number-most = within .1;
+      number-least = numbers .0;
+      number-most = numbers .1;
       front-before-end = leb-false (road .end) (c .position) (position .0);
       slow = ltb-false (road .limit) (c .speed) (speed .0);
       short = ltb-false 65535 (c .length) (length .0);
+      rate-least = rates .0;
+      rate-most = rates .1;
     }
 
 -- and every such one passes them, however far its tail lies before the start
@@ -51,14 +59,17 @@ newcomer-passes road c h =
       lt-leb (road .end) (c .position) (h .front-before-end),
       le-ltb (road .limit) (c .speed) (h .slow),
       le-ltb 65535 (c .length) (h .short),
+      le-ltb (c .rate) 1 (h .rate-least),
+      le-ltb 255 (c .rate) (h .rate-most),
     )
     refl
 
--- "33 length too large, after 6": who is too fast and too long is told the first
-pub length-after-speed : (road : Road) (c : Carrier) → 1 ≤ c .number → c .number ≤ 65535 → c .position < road .end
-    → newcomerNo road c ≡ cond (ltb (road .limit) (c .speed)) 6 (cond (ltb 65535 (c .length)) 33 0)
+-- "33 length too large, after 6"; "35 own rate outside its range, after 33": who is too fast and too long is told the first, and who is too long and
+-- has a rate out of range too
+pub own-values-in-order : (road : Road) (c : Carrier) → 1 ≤ c .number → c .number ≤ 65535 → c .position < road .end
+    → newcomerNo road c ≡ cond (ltb (road .limit) (c .speed)) 6 (cond (ltb 65535 (c .length)) 33 (cond (ltb (c .rate) 1 || ltb 255 (c .rate)) 35 0))
 unfolding newcomerNo
-length-after-speed road c p q h = rw (le-ltb (c .number) 1 p, le-ltb 65535 (c .number) q, lt-leb (road .end) (c .position) h) refl
+own-values-in-order road c p q h = rw (le-ltb (c .number) 1 p, le-ltb 65535 (c .number) q, lt-leb (road .end) (c .position) h) refl
 
 -- on a lane with nobody on it every such one is let in
 pub alone-enters : (s : State) (c : Carrier) → broken s ≡ false → s .count ≡ 0 → s .carriers ≡ [] → Newcomer (s .road) c → enterNo s c ≡ 0

@@ -8,17 +8,18 @@ use native.Mathlib.Omega.{arith}
 use borrow.Author.Tests.{lt-ltb, le-ltb}
 use lib.ListN.{length, getD, set}
 use Rattle.headway.specs.Stopping.{stoppingDistance}
-use Rattle.headway.proofs.Laws.{stopping-quotient, safe-says, safe-holds}
+use Rattle.headway.proofs.Laws.{stopping-quotient}
 use Rattle.lane.specs.declared.Row.{Row}
 use Rattle.lane.specs.Surface.{rowOf, rowIn}
 use Rattle.lane.specs.State.{State}
 use Rattle.lane.specs.Layout.{Words, withCode}
-use Rattle.lane.specs.Safety.{safeWith, laneSafe}
+use Rattle.lane.specs.Safety.{laneSafe}
 use Rattle.lane.specs.Rules.{broken}
 use Rattle.lane.specs.Calls.{none, surfaceNo}
 use Rattle.lane.specs.Call.{surface-call, callNo}
-use Rattle.lane.proofs.checks.Surfaces.{row-brakes, sound-at}
-use Rattle.lane.proofs.checks.Soundness.{sound}
+use Rattle.lane.proofs.EntryLaws.{SafeBy, numbers-safe, safe-numbers}
+use Rattle.lane.proofs.checks.Surfaces.{row-brakes, rate-brakes, sound-at}
+use Rattle.lane.proofs.checks.Soundness.{rated-at, sound}
 use Rattle.lane.proofs.calls.Order.{safe-neighbours, safe-behind-leader}
 
 -- ---- the words: a change by the function itself leaves `withCode`, in which every word but that of the code is as it was
@@ -41,29 +42,25 @@ pub surface-in-force : (s : State) → broken s ≡ false → callNo (surface-ca
 unfolding surfaceNo
 surface-in-force s e = let h = sound s e in rw (e, le-ltb 7 (s .road .surface) (h .road .surface), h .carriers .safe) refl
 
--- "The change is accepted if the whole lane is safe under the new row and refused otherwise.": with b of the one behind and B of the one ahead, by
--- the tail of that one; "34 the lane wouldn't be safe, after 21 and 1"
+-- "The change is accepted if the whole lane is safe under the new row and refused otherwise.": with guaranteed braking of the one behind and B of the
+-- one ahead, by the tail of that one; "34 the lane wouldn't be safe, after 21 and 1"
 pub surface-answers : (s : State) (code : ℕ)
     → (broken s ≡ true → callNo (surface-call code) s ≡ 21)
     × (broken s ≡ false → 7 < code → callNo (surface-call code) s ≡ 1)
     × (broken s ≡ false → code ≤ 7
     → ((i : ℕ) → suc i < length (s .carriers)
-    → (getD (s .carriers) (suc i) none .position + getD (s .carriers) i none .length < getD (s .carriers) i none .position)
-    × (getD (s .carriers) (suc i) none .position + getD (s .carriers) i none .length + stoppingDistance (rowOf (s .tables .inForce) code .guaranteed) (getD (s .carriers) (suc i) none .speed)
-    < getD (s .carriers) i none .position + stoppingDistance (rowOf (s .tables .inForce) code .hardest) (getD (s .carriers) i none .speed)))
+    → SafeBy (rowOf (s .tables .inForce) code) (getD (s .carriers) i none) (getD (s .carriers) (suc i) none))
     → callNo (surface-call code) s ≡ 0)
     × (broken s ≡ false → code ≤ 7
     → (i : ℕ) → suc i < length (s .carriers)
-    → ¬ ((getD (s .carriers) (suc i) none .position + getD (s .carriers) i none .length < getD (s .carriers) i none .position)
-    × (getD (s .carriers) (suc i) none .position + getD (s .carriers) i none .length + stoppingDistance (rowOf (s .tables .inForce) code .guaranteed) (getD (s .carriers) (suc i) none .speed)
-    < getD (s .carriers) i none .position + stoppingDistance (rowOf (s .tables .inForce) code .hardest) (getD (s .carriers) i none .speed)))
+    → ¬ (SafeBy (rowOf (s .tables .inForce) code) (getD (s .carriers) i none) (getD (s .carriers) (suc i) none))
     → callNo (surface-call code) s ≡ 34)
-unfolding surfaceNo safeWith
+unfolding surfaceNo
 surface-answers s code = (
   λ e. rw e refl,
   λ e h. rw (e, lt-ltb 7 code h) refl,
-  λ e known h. by-safety e known ∙ rw (safe-neighbours r (s .carriers) λ i p. safe-holds _ _ _ _ _ _ (record { below = h i p .0; stops-below = h i p .1 })) refl,
-  λ e known i p h. by-safety e known ∙ unsafe (λ q. let t = safe-says _ _ _ _ _ _ (safe-behind-leader r (s .carriers) q i p) in h (t .below, t .stops-below)) _ refl,
+  λ e known h. by-safety e known ∙ rw (safe-neighbours r (s .carriers) λ i p. numbers-safe r (getD (s .carriers) i none) (getD (s .carriers) (suc i) none) (h i p)) refl,
+  λ e known i p h. by-safety e known ∙ unsafe (λ q. h (safe-numbers r _ _ (safe-behind-leader r (s .carriers) q i p))) _ refl,
 )
   where
     r : Row
@@ -83,10 +80,11 @@ at-rest c h = rw (stopping-quotient c 0 h, zero-div c, zero-mod c, zero-mul c) r
 -- so that where nobody behind the foremost moves every code that there is is accepted
 pub surface-standing : (s : State) (code : ℕ) → broken s ≡ false → code ≤ 7
     → ((i : ℕ) → suc i < length (s .carriers) → getD (s .carriers) (suc i) none .speed ≡ 0) → callNo (surface-call code) s ≡ 0
-unfolding safeWith
 surface-standing s code e known rest =
     let h = sound s e in
-    let brakes = row-brakes _ (sound-at (s .tables .inForce) code known (h .in-force)) in
+    let r = rowOf (s .tables .inForce) code in
+    let brakes = row-brakes r (sound-at (s .tables .inForce) code known (h .in-force)) in
     surface-answers s code .2 e known λ i p.
-    let own = safe-says _ _ _ _ _ _ (safe-behind-leader (rowIn (s .tables) (s .road)) (s .carriers) (h .carriers .safe) i p) in
-    (own .below, rw (rest i p, at-rest _ (brakes .0)) (omega (arith, own .below)))
+    let own = safe-numbers _ _ _ (safe-behind-leader (rowIn (s .tables) (s .road)) (s .carriers) (h .carriers .safe) i p) in
+    let rate = rate-brakes r (getD (s .carriers) (suc i) none) brakes (rated-at (s .road) (s .carriers) (h .carriers .lawful) (suc i) p) in
+    (own .0, rw (rest i p, at-rest _ (rate .0)) (omega (arith, own .0)))

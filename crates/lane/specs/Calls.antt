@@ -53,7 +53,7 @@ begunState s road first =
       carriers = [];
     }
 
--- ---- enter: "21, 4, 5, 6, 22, 23, 25, 26."; document 02, T-03: 33 "after 6"
+-- ---- enter: "21, 4, 5, 6, 22, 23, 25, 26."; document 02, T-03: 33 "after 6"; T-06: 35 "after 33"
 
 -- "For the place, the walk goes front to back and ends at the first carrier whose position is lower."
 unfoldable pub walk : (position : ℕ) → List Carrier → ℕ
@@ -61,7 +61,7 @@ walk position cs = firstPlace (λ c. ltb (c .position) position) cs
 
 -- the record of no carrier
 abbrev pub none : Carrier
-none = record { number = 0; position = 0; speed = 0; length = 0 }
+none = record { number = 0; position = 0; speed = 0; length = 0; rate = 0 }
 
 -- the carrier ahead of a place
 abbrev pub aheadOf : ℕ → List Carrier → Ahead
@@ -80,7 +80,8 @@ placeNo s c =
     (cond (anyOf (numbered (c .number)) (s .carriers)) 23
     (gapNo (rowIn (s .tables) (s .road)) (walk (c .position) (s .carriers)) c (s .carriers)))
 
--- "Enter (number, position, speed): 21, 4, 5, 6, 22, 23, 25, 26."; T-03: "Each entry gains a length"
+-- "Enter (number, position, speed): 21, 4, 5, 6, 22, 23, 25, 26."; T-03: "Each entry gains a length"; T-06:
+-- "Each entry names the carrier's own rate"
 unfoldable pub enterNo : State → Carrier → ℕ
 enterNo s c =
     cond (broken s) 21 (ifAccepted (newcomerNo (s .road) c) (placeNo s c) (newcomerNo (s .road) c))

@@ -40,9 +40,10 @@ pub record Entry : Type 0 where
 abbrev pub entry : Case → Value → Entry
 entry c v = record { shown = c; gives = v }
 
--- document 02, T-03: "01's example gets the lines that this and later requests add, with values that keep its figures": no length
+-- document 02, T-03: "01's example gets the lines that this and later requests add, with values that keep its figures": no length,
+-- and an own rate of at least b
 abbrev pub carrier : (number position speed : ℕ) → Carrier
-carrier number position speed = record { number = number; position = position; speed = speed; length = 0 }
+carrier number position speed = record { number = number; position = position; speed = speed; length = 0; rate = 255 }
 
 -- "start 0, 10000, 1000, 0; enter 7 at .. speed 0; enter 8 at 700 speed 64", from the empty lane
 abbrev pub exampleLane : ℕ → State

@@ -1,7 +1,7 @@
 -- A lane as it is lent: 89 rows of eight words of 64 bits, and each word is a number of the state as it stands. Row 0 holds started, surface,
 -- end, limit, cycle number and the number of carriers present; rows 1 to 8 the surface rows in force, 9 to 16 those for the next start, code
--- after code, each b, B and A; rows 25 to 88 the records, front to back, each number, position, speed and length. Every other word is free: no
--- definition looks at it.
+-- after code, each b, B and A; rows 25 to 88 the records, front to back, each number, position, speed, length and own rate. Every other word is free:
+-- no definition looks at it.
 use Prim.Native.Nat.{ℕ, _+_}
 use mathlib.Core.List.{List, [], _∷_, _++_, map}
 use lib.Dec.{eqb}
@@ -47,7 +47,7 @@ tablesIn l = record { inForce = tableFrom 1 l; next = tableFrom 9 l }
 
 -- the record in a row
 abbrev pub recordIn : List ℕ → Carrier
-recordIn r = record { number = getD r 0 0; position = getD r 1 0; speed = getD r 2 0; length = getD r 3 0 }
+recordIn r = record { number = getD r 0 0; position = getD r 1 0; speed = getD r 2 0; length = getD r 3 0; rate = getD r 4 0 }
 
 -- the sixty-four records
 unfoldable pub recordsIn : Words → List Carrier

@@ -10,7 +10,7 @@ lastSurface = 7
 abbrev pub surfaces : ℕ
 surfaces = suc lastSurface
 
--- T-01: "B at most 255 and A 1 to 255"
+-- T-01: "B at most 255 and A 1 to 255"; T-06: "the carrier's own rate, 1 to 255"
 abbrev pub highestRate : ℕ
 highestRate = 255
 
@@ -33,6 +33,6 @@ mostCarriers = 64
 abbrev pub lastCycle : ℕ
 lastCycle = 18446744073709551615
 
--- the longest lane text: a line for the number of carriers, and of each at most 5, 10, 4 and 5 digits
+-- the longest lane text: a line for the number of carriers, and of each at most 5, 10, 4, 5 and 3 digits
 abbrev pub longestText : ℕ
-longestText = 3080
+longestText = 3720

@@ -12,7 +12,8 @@ use Rattle.lane.specs.State.{State}
 use Rattle.lane.specs.Rules.{broken}
 
 -- the lines of a carrier, here and in the block `enter`: "at, .., speed ..: 32 bits; car: 16"; document 02, T-03: "a line `length=` (32 bits)
--- after `speed`, printed in that place too"; the key of each and the most that it holds
+-- after `speed`, printed in that place too"; T-06: "a line `brake=` (32 bits) after `length`, printed there too"; the key of each and the most that
+-- it holds
 abbrev pub carKey : List ℕ
 carKey = ascii "car="
 
@@ -37,11 +38,18 @@ lengthKey = ascii "length="
 abbrev pub lengthMost : ℕ
 lengthMost = 4294967295
 
--- "then number, position, speed", and the length
+abbrev pub brakeKey : List ℕ
+brakeKey = ascii "brake="
+
+abbrev pub brakeMost : ℕ
+brakeMost = 4294967295
+
+-- "then number, position, speed", the length and the own rate
 unfoldable pub carrierText : Carrier → List ℕ
 carrierText c =
     line carKey (decimal (c .number))
-    ++ (line atKey (decimal (c .position)) ++ (line speedKey (decimal (c .speed)) ++ line lengthKey (decimal (c .length))))
+    ++ (line atKey (decimal (c .position))
+    ++ (line speedKey (decimal (c .speed)) ++ (line lengthKey (decimal (c .length)) ++ line brakeKey (decimal (c .rate)))))
 
 -- "front to back"
 unfoldable pub carriersText : List Carrier → List ℕ

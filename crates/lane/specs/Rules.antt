@@ -6,7 +6,7 @@ use lib.Dec.{eqb, leb, ltb}
 use Rattle.lane.specs.declared.Carrier.{Carrier}
 use Rattle.lane.specs.declared.Road.{Road}
 use Rattle.lane.specs.declared.Row.{Row}
-use Rattle.lane.specs.Limits.{lastSurface, farthestEnd, fastest, highestNumber, longestCarrier, mostCarriers}
+use Rattle.lane.specs.Limits.{lastSurface, farthestEnd, fastest, highestNumber, longestCarrier, highestRate, mostCarriers}
 use Rattle.lane.specs.Surface.{unsound, rowIn}
 use Rattle.lane.specs.State.{State}
 use Rattle.lane.specs.Safety.{laneSafe, anyOf, repeats}
@@ -33,9 +33,14 @@ tooFast road c = ltb (road .limit) (c .speed)
 abbrev pub tooLong : Carrier → Bool
 tooLong c = ltb longestCarrier (c .length)
 
--- a carrier that breaks a rule by itself: "a number 0 .., a speed above the limit"; T-03, of 21: "and at a length out of range"
+-- T-06: "35 own rate outside its range"
+abbrev pub badRate : ℕ → Bool
+badRate = outsideOf 1 highestRate
+
+-- a carrier that breaks a rule by itself: "a number 0 .., a speed above the limit"; T-03, of 21: "and at a length out of range"; T-06: "21 covers
+-- a rate out of range too."
 unfoldable pub unlawful : Road → Carrier → Bool
-unlawful road c = badNumber (c .number) || tooFast road c || tooLong c
+unlawful road c = badNumber (c .number) || tooFast road c || tooLong c || badRate (c .rate)
 
 -- T-03: "A carrier is gone once its tail is at or past the end, and 21 looks at the tail likewise"
 unfoldable pub pastEnd : Road → Carrier → Bool
@@ -47,7 +52,8 @@ faulty r road cs = anyOf (λ c. unlawful road c || pastEnd road c) cs || repeats
 
 -- "21 never started, or the lane handed in breaks a rule of this paper (a surface or bound outside its range, more than 64 carriers,
 -- a number 0 or twice, a speed above the limit, a position at or past the end, a lane not safe)"; document 02, T-01: "A lane handed in with an
--- unsound row gets 21", of those in force or of those for the next start; T-03: "21 looks at the tail likewise, and at a length out of range"
+-- unsound row gets 21", of those in force or of those for the next start; T-03: "21 looks at the tail likewise, and at a length out of range"; T-06:
+-- "21 covers a rate out of range too."
 unfoldable pub broken : State → Bool
 broken s =
     not (s .started)
@@ -58,6 +64,9 @@ broken s =
     || faulty (rowIn (s .tables) (s .road)) (s .road) (s .carriers)
 
 -- a newcomer's own values: "4 carrier number 0; 5 position at or past the end; 6 speed above the limit", 5 of its front; T-03: "33 length too
--- large, after 6"
+-- large, after 6"; T-06: "35 own rate outside its range, after 33"
 unfoldable pub newcomerNo : Road → Carrier → ℕ
-newcomerNo road c = cond (badNumber (c .number)) 4 (cond (leb (road .end) (c .position)) 5 (cond (tooFast road c) 6 (cond (tooLong c) 33 0)))
+newcomerNo road c =
+    cond (badNumber (c .number)) 4
+    (cond (leb (road .end) (c .position)) 5
+    (cond (tooFast road c) 6 (cond (tooLong c) 33 (cond (badRate (c .rate)) 35 0))))

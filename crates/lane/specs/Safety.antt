@@ -1,5 +1,5 @@
--- Document 01, "Stopping", and document 02, T-03: who is safe behind whom, and a lane that is safe; and searches over its carriers.
-use Prim.Native.Nat.{ℕ, suc, _+_}
+-- Document 01, "Stopping", and document 02, T-03 and T-06: who is safe behind whom, and a lane that is safe; and searches over its carriers.
+use Prim.Native.Nat.{ℕ, suc, _+_, min}
 use mathlib.Core.Bool.{Bool, true, false, _&&_, _||_, cond}
 use mathlib.Core.List.{List, [], _∷_}
 use lib.Dec.{eqb}
@@ -12,16 +12,18 @@ pub data Ahead : Type 0 where
   nobody : Ahead
   leader : Carrier → Ahead
 
--- the rate at which a carrier is sure to brake: "guaranteed braking b"
+-- the rate at which a carrier is sure to brake, g: T-06, "Its guaranteed braking is the smaller of its own rate and the row's b, everywhere that b
+-- stood."
 abbrev pub guaranteedRate : Row → Carrier → ℕ
-guaranteedRate r c = r .guaranteed
+guaranteedRate r c = min (c .rate) (r .guaranteed)
 
 -- what must stay below the position of the carrier ahead: T-03, "Safe behind now uses the position of the carrier ahead less its length". Its
 -- length stands on the follower's side, where nothing is subtracted: "a tail may lie before the lane's start".
 abbrev pub reachTo : (ahead c : Carrier) → ℕ
 reachTo ahead c = c .position + ahead .length
 
--- safe behind the carrier next ahead, "in both halves" by its tail; the foremost is by itself
+-- safe behind the carrier next ahead, "in both halves" by its tail; T-06: "The carrier ahead is still reckoned with the row's B."; the foremost is
+-- by itself
 unfoldable pub safeWith : Row → Ahead → Carrier → Bool
 safeWith r nobody c = true
 safeWith r (leader a) c = safeBehind (guaranteedRate r c) (r .hardest) (reachTo a c) (c .speed) (a .position) (a .speed)

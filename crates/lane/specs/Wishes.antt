@@ -41,20 +41,20 @@ anyOutside [] ws = false
 anyOutside (c ∷ cs) [] = false
 anyOutside (c ∷ cs) (w ∷ ws) = isOutside (unitsOf w (c .speed)) || anyOutside cs ws
 
--- "The units are trimmed into −(smaller of B and v) to the smaller of A and V − v."
+-- "The units are trimmed into −(smaller of B and v) to the smaller of A and V − v.", whatever the carrier's own rate
 unfoldable pub trimmed : Row → (limit : ℕ) → Carrier → ℤ → ℤ
 trimmed r limit c z = trimmedTo z (c .speed) (r .hardest) (r .most) limit
 
 -- "A trimmed w at or below −(smaller of b and v) stands. So does any w of the foremost carrier, and any w with
 -- p + 2v + w + S(b, v + w) below p of the carrier ahead + S(B, its v), both taken at the cycle's start."; document 02, T-03: "the position of
--- the carrier ahead less its length, in both halves and in the wish rule"
+-- the carrier ahead less its length, in both halves and in the wish rule"; T-06: b is the carrier's guaranteed braking
 unfoldable pub stands : Row → Ahead → Carrier → ℤ → Bool
 stands r nobody c w = true
 stands r (leader a) c w =
     leZ w (braking (guaranteedRate r c) (c .speed))
     || restsBehind (guaranteedRate r c) (r .hardest) (reachTo a c) (c .speed) w (a .position) (a .speed)
 
--- what a carrier with a wish of z units does: "Otherwise w is replaced by −(smaller of b and v)."
+-- what a carrier with a wish of z units does: "Otherwise w is replaced by −(smaller of b and v).", of T-06's guaranteed braking
 unfoldable pub drive : Row → (limit : ℕ) → Ahead → Carrier → ℤ → Drive
 drive r limit ahead c z =
     let stays = stands r ahead c (trimmed r limit c z) in
@@ -63,10 +63,16 @@ drive r limit ahead c z =
       acceleration = cond stays (trimmed r limit c z) (braking (guaranteedRate r c) (c .speed));
     }
 
--- "One cycle with a: the speed becomes v + a, the position p + 2v + a."
+-- "One cycle with a: the speed becomes v + a, the position p + 2v + a."; length and own rate stay
 unfoldable pub moved : Carrier → ℤ → Carrier
 moved c a =
-    record { number = c .number; position = positionAfter (c .position) (c .speed) a; speed = speedAfter (c .speed) a; length = c .length }
+    record {
+      number = c .number;
+      position = positionAfter (c .position) (c .speed) a;
+      speed = speedAfter (c .speed) a;
+      length = c .length;
+      rate = c .rate;
+    }
 
 -- what each carrier does, front to back, the first of the list behind `ahead`: the carrier ahead is as at the cycle's start
 unfoldable pub drives : Row → (limit : ℕ) → Ahead → List Carrier → (units : List ℤ) → List Drive

@@ -197,6 +197,7 @@ pub(crate) fn no_carrier() -> Carrier
         position: 0,
         speed: 0,
         length: 0,
+        rate: 0,
     }
 }
 
@@ -211,6 +212,7 @@ pub(crate) fn carrier_at(l: &Lane, place: usize) -> Carrier
         position: row[1],
         speed: row[2],
         length: row[3],
+        rate: row[4],
     }
 }
 
@@ -226,7 +228,7 @@ pub(crate) fn put_carrier(l: &mut Lane, place: usize, c: Carrier)
         c.position,
         c.speed,
         c.length,
-        row[4],
+        c.rate,
         row[5],
         row[6],
         row[7],

@@ -29,7 +29,7 @@ use wish::Wish;
 // Document 01's limits.
 pub const LAST_SURFACE: u64 = 7;
 
-// Eight surface codes, each with a row of rates up to the highest.
+// Eight surface codes, each with a row of rates up to the highest, which bounds a carrier's own rate too.
 pub const SURFACES: usize = 8;
 
 pub const HIGHEST_RATE: u64 = 255;
@@ -48,7 +48,7 @@ pub const MOST_CARRIERS: usize = 64;
 pub const LAST_CYCLE: u64 = 18446744073709551615;
 
 // The longest lane text.
-pub const LONGEST_TEXT: usize = 3080;
+pub const LONGEST_TEXT: usize = 3720;
 
 // The keys of a carrier's lines.
 pub const CAR: [u8; 4] = *b"car=";
@@ -58,6 +58,8 @@ pub const AT: [u8; 3] = *b"at=";
 pub const SPEED: [u8; 6] = *b"speed=";
 
 pub const LENGTH: [u8; 7] = *b"length=";
+
+pub const BRAKE: [u8; 6] = *b"brake=";
 
 // A lane's words, in rows; `layout` says which is where.
 pub const ROWS: usize = 89;
@@ -69,13 +71,14 @@ pub type Lane = [[u64; ROW_WORDS]; ROWS];
 // A terminal's surface rows: guaranteed braking, hardest braking and most acceleration of each code.
 pub type Table = [[u64; 3]; SURFACES];
 
-// The position is that of the front; the tail is the length behind it.
+// The position is that of the front; the tail is the length behind it. The rate is its own: it brakes at that or at the row's, whichever is smaller.
 #[repr(C)]
 pub struct Carrier {
     pub number: u64,
     pub position: u64,
     pub speed: u64,
     pub length: u64,
+    pub rate: u64,
 }
 
 // What a start gives of the road: its surface code, the lane's end and the speed limit.

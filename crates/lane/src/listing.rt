@@ -1,4 +1,4 @@
-// The lane text: the number of carriers, and then number, position, speed and length of each, front to back.
+// The lane text: the number of carriers, and then number, position, speed, length and own rate of each, front to back.
 ghost use mathlib.Core.Path.{_≡_};
 ghost use mathlib.Core.Bool.{false};
 ghost use Prim.Native.Nat.{_+_, _≤_};
@@ -9,6 +9,7 @@ ghost use Rattle.lane.specs.Layout.{stateOf};
 ghost use Rattle.lane.specs.Rules.{broken};
 ghost use Rattle.lane.specs.Listing.{carrierText, laneText};
 use crate::AT;
+use crate::BRAKE;
 use crate::CAR;
 use crate::Carrier;
 use crate::LENGTH;
@@ -19,13 +20,14 @@ use crate::layout;
 
 // How long a carrier's lines are.
 fn carrier_length(c: Carrier) -> usize
-    ensures { λ r. ⌜ (r ≡ length (carrierText c)) × (r ≤ 104) ⌝ }
+    ensures { λ r. ⌜ (r ≡ length (carrierText c)) × (r ≤ 131) ⌝ }
 {
-    24
+    31
         + text::decimal_length(c.number)
         + text::decimal_length(c.position)
         + text::decimal_length(c.speed)
         + text::decimal_length(c.length)
+        + text::decimal_length(c.rate)
 }
 
 // How long the text is.
@@ -62,7 +64,8 @@ fn put_carrier(out: &mut [u8], at: usize, c: Carrier) -> usize
     let number = text::put_decimal_line(out, at, &CAR, c.number);
     let position = text::put_decimal_line(out, number, &AT, c.position);
     let speed = text::put_decimal_line(out, position, &SPEED, c.speed);
-    text::put_decimal_line(out, speed, &LENGTH, c.length)
+    let length = text::put_decimal_line(out, speed, &LENGTH, c.length);
+    text::put_decimal_line(out, length, &BRAKE, c.rate)
 }
 
 // The text put at the buffer's start, into which it fits, and its length.

@@ -7,7 +7,7 @@ ghost use lib.ListN.{length, getD, take, set};
 ghost use Rattle.headway.specs.Motion.{speedAfter};
 ghost use Rattle.wish.specs.Units.{unitsOf};
 ghost use Rattle.lane.specs.Layout.{figuresIn, tablesIn, recordsIn, stateOf};
-ghost use Rattle.lane.specs.Safety.{nobody, leader};
+ghost use Rattle.lane.specs.Safety.{nobody, leader, guaranteedRate};
 ghost use Rattle.lane.specs.Rules.{roadNo, pastEnd, faulty};
 ghost use Rattle.lane.specs.Wishes.{isOutside, unitsIn, wishedUnits, anyOutside, stands, drive, drives, moved, allMoved, bit, replacedIn, wordOf, countOf, remaining};
 ghost use Rattle.lane.specs.Calls.{none, atCycle, withCarriers, drivesWith, leftAfter, readyNo};
@@ -92,7 +92,7 @@ fn next_speed(c: Carrier, acceleration: i64) -> u32
 
 // The trimmed wish w of the carrier stands; `ahead` counts unless the carrier is the foremost.
 fn wish_stands(row: Row, foremost: bool, ahead: Carrier, c: Carrier, w: i64) -> bool
-    requires { ⌜ (1 ≤ row .guaranteed) × (1 ≤ row .hardest) ⌝ }
+    requires { ⌜ (1 ≤ guaranteedRate row c) × (1 ≤ row .hardest) ⌝ }
     requires { ⌜ (pos (c .speed) +ℤ w ≡ pos (speedAfter (c .speed) w)) × (speedAfter (c .speed) w ≤ 8192) ⌝ }
     requires { ⌜ (c .position + ahead .length < 4294967296) × ((c .speed < 4294967296) × ((ahead .position < 4294967296) × (ahead .speed < 4294967296))) ⌝ }
     ensures { λ r. ⌜ r ≡ stands row (cond foremost nobody (leader ahead)) c w ⌝ }
@@ -117,7 +117,7 @@ fn wish_stands(row: Row, foremost: bool, ahead: Carrier, c: Carrier, w: i64) -> 
 }
 
 fn drive_one(row: Row, limit: u64, foremost: bool, ahead: Carrier, c: Carrier, units: i64) -> Drive
-    requires { ⌜ ((1 ≤ row .guaranteed) × (1 ≤ row .hardest)) × ((c .speed ≤ limit) × (limit ≤ 8192)) ⌝ }
+    requires { ⌜ ((1 ≤ guaranteedRate row c) × (1 ≤ row .hardest)) × ((c .speed ≤ limit) × (limit ≤ 8192)) ⌝ }
     requires { ⌜ (c .position + ahead .length < 4294967296) × ((ahead .position < 4294967296) × (ahead .speed < 4294967296)) ⌝ }
     ensures { λ r. ⌜ r ≡ drive row limit (cond foremost nobody (leader ahead)) c units ⌝ }
     ensures { λ r. ⌜ (pos (c .speed) +ℤ r .acceleration ≡ pos (speedAfter (c .speed) (r .acceleration))) × (speedAfter (c .speed) (r .acceleration) ≤ limit) ⌝ }
@@ -146,6 +146,7 @@ fn move_one(c: Carrier, acceleration: i64) -> Carrier
         position: headway::reached(rules::narrow(c.position), rules::narrow(c.speed), next),
         speed: next as u64,
         length: c.length,
+        rate: c.rate,
     }
 }
 

@@ -8,7 +8,7 @@ ghost use lib.Seq.{slice};
 ghost use Rattle.headway.specs.Totals.{restOf};
 ghost use Rattle.lane.specs.Layout.{recordsIn, stateOf};
 ghost use Rattle.lane.specs.Safety.{leader, guaranteedRate, reachTo, safeWith, anyOf, numbered};
-ghost use Rattle.lane.specs.Rules.{badNumber, roadNo, unlawful as unlawfulIn, pastEnd, faulty, broken, newcomerNo};
+ghost use Rattle.lane.specs.Rules.{badNumber, badRate, roadNo, unlawful as unlawfulIn, pastEnd, faulty, broken, newcomerNo};
 ghost use Rattle.lane.specs.Table.{tableIn, badTable, loadNo};
 ghost use Rattle.lane.specs.Calls.{none, ifAccepted, startNo, walk, gapNo, placeNo, enterNo, namedNo, placeOf, readyNo};
 use crate::Carrier;
@@ -16,6 +16,7 @@ use crate::FARTHEST_END;
 use crate::FASTEST;
 use crate::Found;
 use crate::HIGHEST_NUMBER;
+use crate::HIGHEST_RATE;
 use crate::LAST_CYCLE;
 use crate::LAST_SURFACE;
 use crate::LONGEST_CARRIER;
@@ -68,11 +69,18 @@ fn bad_number(number: u64) -> bool
     (number < 1) | (HIGHEST_NUMBER < number)
 }
 
+// A carrier's own rate out of its range.
+fn bad_rate(rate: u64) -> bool
+    ensures { λ r. ⌜ r ≡ badRate rate ⌝ }
+{
+    (rate < 1) | (HIGHEST_RATE < rate)
+}
+
 // A carrier breaks a rule by itself.
 fn unlawful(road: Road, c: Carrier) -> bool
     ensures { λ r. ⌜ r ≡ unlawfulIn road c ⌝ }
 {
-    bad_number(c.number) | (road.limit < c.speed) | (LONGEST_CARRIER < c.length)
+    bad_number(c.number) | (road.limit < c.speed) | (LONGEST_CARRIER < c.length) | bad_rate(c.rate)
 }
 
 // A carrier's tail is at or past the lane end.
@@ -101,14 +109,21 @@ fn newcomer_refusal(road: Road, c: Carrier) -> u32
     if LONGEST_CARRIER < c.length {
         return 33;
     }
+    if bad_rate(c.rate) {
+        return 35;
+    }
     0
 }
 
-// The rate at which a carrier is sure to brake.
+// The rate at which a carrier is sure to brake: its own or the row's, whichever is smaller.
 pub(crate) fn guaranteed_rate(row: Row, c: Carrier) -> u32
     ensures { λ r. ⌜ r ≡ guaranteedRate row c ⌝ }
 {
-    row.guaranteed
+    if c.rate < row.guaranteed as u64 {
+        c.rate as u32
+    } else {
+        row.guaranteed
+    }
 }
 
 // What must stay below the position of the carrier ahead: its length is added here, since its tail may lie before the lane's start.
@@ -129,7 +144,7 @@ fn rest(rate: u32, c: Carrier) -> u64
 
 // The follower, whose rest is known, is safe behind the carrier ahead.
 fn safe_at(row: Row, ahead: Carrier, c: Carrier, stop: u64) -> bool
-    requires { ⌜ ((1 ≤ row .guaranteed) × (1 ≤ row .hardest)) × (stop ≡ restOf (guaranteedRate row c) (c .position) (c .speed)) ⌝ }
+    requires { ⌜ ((1 ≤ guaranteedRate row c) × (1 ≤ row .hardest)) × (stop ≡ restOf (guaranteedRate row c) (c .position) (c .speed)) ⌝ }
     requires { ⌜ (c .position + ahead .length < 4294967296) × ((ahead .position < 4294967296) × (ahead .speed < 4294967296)) ⌝ }
     ensures { λ r. ⌜ r ≡ safeWith row (leader ahead) c ⌝ }
 {
@@ -142,7 +157,7 @@ fn safe_at(row: Row, ahead: Carrier, c: Carrier, stop: u64) -> bool
 
 // The follower is safe behind the carrier ahead.
 pub(crate) fn safe(row: Row, ahead: Carrier, c: Carrier) -> bool
-    requires { ⌜ (1 ≤ row .guaranteed) × (1 ≤ row .hardest) ⌝ }
+    requires { ⌜ (1 ≤ guaranteedRate row c) × (1 ≤ row .hardest) ⌝ }
     requires { ⌜ (c .position + ahead .length < 4294967296) × ((c .speed < 4294967296) × ((ahead .position < 4294967296) × (ahead .speed < 4294967296))) ⌝ }
     ensures { λ r. ⌜ r ≡ safeWith row (leader ahead) c ⌝ }
 {
@@ -249,11 +264,11 @@ fn refused(no: u32) -> Checked
     Checked { no, place: 0 }
 }
 
-// The carriers next to a place: 25 and 26. A position and a length together are to be of 32 bits.
+// The carriers next to a place: 25 and 26. A position and a length together are to be of 32 bits, and no own rate 0.
 fn gap_refusal(l: &Lane, row: Row, count: usize, place: usize, c: Carrier) -> u32
     requires { ⌜ (place ≤ count) × ((count ≤ 64) × (length (recordsIn (now l)) ≡ 64)) ⌝ }
-    requires { ⌜ ((1 ≤ row .guaranteed) × (1 ≤ row .hardest)) × ((c .position < 4294901760) × ((c .speed < 4294967296) × (c .length ≤ 65535))) ⌝ }
-    requires { ⌜ ((i : ℕ) → i < count → (getD (recordsIn (now l)) i none .position < 4294901760) × ((getD (recordsIn (now l)) i none .speed < 4294967296) × (getD (recordsIn (now l)) i none .length ≤ 65535))) ⌝ }
+    requires { ⌜ ((1 ≤ row .guaranteed) × (1 ≤ row .hardest)) × ((c .position < 4294901760) × ((c .speed < 4294967296) × ((c .length ≤ 65535) × (1 ≤ c .rate)))) ⌝ }
+    requires { ⌜ ((i : ℕ) → i < count → (getD (recordsIn (now l)) i none .position < 4294901760) × ((getD (recordsIn (now l)) i none .speed < 4294967296) × ((getD (recordsIn (now l)) i none .length ≤ 65535) × (1 ≤ getD (recordsIn (now l)) i none .rate)))) ⌝ }
     ensures { λ r. ⌜ r ≡ gapNo row place c (take count (recordsIn (now (l .entry)))) ⌝ }
 {
     if 0 < place {

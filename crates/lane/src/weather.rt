@@ -18,7 +18,7 @@ use crate::rules;
 fn any_unsafe(l: &Lane, row: Row, count: usize) -> bool
     requires { ⌜ (count ≤ 64) × (length (recordsIn (now l)) ≡ 64) ⌝ }
     requires { ⌜ (1 ≤ row .guaranteed) × (1 ≤ row .hardest) ⌝ }
-    requires { ⌜ ((i : ℕ) → i < count → (getD (recordsIn (now l)) i none .position < 4294901760) × ((getD (recordsIn (now l)) i none .speed < 4294967296) × (getD (recordsIn (now l)) i none .length ≤ 65535))) ⌝ }
+    requires { ⌜ ((i : ℕ) → i < count → (getD (recordsIn (now l)) i none .position < 4294901760) × ((getD (recordsIn (now l)) i none .speed < 4294967296) × ((getD (recordsIn (now l)) i none .length ≤ 65535) × (1 ≤ getD (recordsIn (now l)) i none .rate)))) ⌝ }
     ensures { λ r. ⌜ r ≡ not (laneSafe row (take count (recordsIn (now (l .entry))))) ⌝ }
 {
     let mut place: usize = 1;

@@ -24,7 +24,7 @@ use Rattle.lane.proofs.calls.Entering.{insert-length, insert-any, inser
 use Rattle.lane.proofs.calls.Leaving.{Thinned, removed-thins, remaining-thins, thinned-length, thinned-any, thinned-repeats, remaining-before}
 use Rattle.lane.proofs.driving.Moving.{moved-length, moved-repeats, moved-lawful}
 use Rattle.lane.proofs.calls.Order.{thinned-safe, insert-safe}
-use Rattle.lane.proofs.checks.Soundness.{sound-road, surfaced-road, Faultless, surfaced-faultless, Sound, row-sound, sound, sound-holds}
+use Rattle.lane.proofs.checks.Soundness.{sound-road, surfaced-road, Faultless, surfaced-faultless, Sound, rated-at, row-sound, sound, sound-holds}
 use Rattle.lane.proofs.checks.Surfaces.{SoundRow}
 use Rattle.lane.proofs.driving.Turns.{moved-safe}
 
@@ -52,7 +52,7 @@ module _ {r : Row} {road : Road} (sound : SoundRow r) where
         few = omega (arith, moved-length cs ds, h .few);
         lawful = moved-lawful r road nobody cs zs (h .lawful);
         distinct = moved-repeats cs ds (h .distinct);
-        safe = moved-safe r sound (road .limit) cs zs (h .safe);
+        safe = moved-safe r sound (road .limit) cs zs (rated-at road cs (h .lawful)) (h .safe);
       }
 
 -- a sound state with other carriers, at any cycle

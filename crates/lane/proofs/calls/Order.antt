@@ -15,7 +15,7 @@ use Rattle.lane.specs.Safety.{Ahead, nobody, leader, guaranteedRate, rea
 use Rattle.lane.specs.Calls.{none, aheadOf, insertAt, gapNo}
 use Rattle.lane.proofs.lists.Passed.{both, passed}
 use Rattle.lane.proofs.calls.Leaving.{Thinned, nobody-left, stays, goes}
-use Rattle.lane.proofs.checks.Surfaces.{SoundRow}
+use Rattle.lane.proofs.checks.Surfaces.{SoundRow, rate-no-harder}
 
 -- what holds of neighbours holds of any two, where it passes on
 pub descends : {X : Type 0} (R : X → X → Type 0) (at : ℕ → X) (n : ℕ) → ((x y z : X) → R x y → R y z → R x z)
@@ -132,7 +132,7 @@ module _ (r : Row) where
 
   -- ---- carriers left out
   module _ (sound : SoundRow r) where
-    -- who was behind the one that leaves is safe behind the one ahead of it
+    -- who was behind the one that leaves is safe behind the one ahead of it, whatever the rates of the two
     behind-left : (ahead : Ahead) (c : Carrier) (cs : List Carrier) → safeFrom r ahead (c ∷ cs) ≡ true → safeFrom r ahead cs ≡ true
     unfolding safeFrom safeWith
     behind-left ahead c [] s = refl
@@ -142,7 +142,7 @@ module _ (r : Row) where
         let first = both (safeWith r (leader a) c) (safeFrom r (leader c) (d ∷ cs)) s in
         let second = both (safeWith r (leader c) d) (safeFrom r (leader d) cs) (first .1) in
         rw (safe-trans (guaranteedRate r d) (guaranteedRate r c) (r .hardest) (d .position) (d .speed) (c .length) (c .position) (c .speed) (a .length) (a .position) (a .speed)
-        (sound .brakes-harder) (second .0) (first .0)) (second .1)
+        (rate-no-harder r c sound) (second .0) (first .0)) (second .1)
 
     thinned-safe-from : {ds cs : List Carrier} → Thinned ds cs → (ahead : Ahead) → safeFrom r ahead cs ≡ true → safeFrom r ahead ds ≡ true
     unfolding safeFrom

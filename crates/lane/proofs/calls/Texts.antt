@@ -21,7 +21,7 @@ use Rattle.lane.specs.Surface.{Tables}
 use Rattle.lane.specs.Layout.{Words, stateWith, stateOf}
 use Rattle.lane.specs.Safety.{anyOf}
 use Rattle.lane.specs.Rules.{unlawful, pastEnd, broken}
-use Rattle.lane.specs.Listing.{carKey, atKey, speedKey, lengthKey, carrierText, carriersText, laneText, textNo, textBytes}
+use Rattle.lane.specs.Listing.{carKey, atKey, speedKey, lengthKey, brakeKey, carrierText, carriersText, laneText, textNo, textBytes}
 use Rattle.lane.proofs.lists.Lists.{slice-next, slice-past}
 use Rattle.lane.proofs.lists.Tests.{neither}
 use Rattle.lane.proofs.checks.Soundness.{SoundRoad, fit, sound}
@@ -34,13 +34,13 @@ pub digits-64 : (n : ℕ) → n < 18446744073709551616 → length (decimal n) �
 digits-64 n h = decimal-at-most 20 n (omega arith) (omega arith)
 
 pub length-carrier : (c : Carrier)
-    → length (carrierText c) ≡ 24 + length (decimal (c .number)) + length (decimal (c .position)) + length (decimal (c .speed)) + length (decimal (c .length))
+    → length (carrierText c) ≡ 31 + length (decimal (c .number)) + length (decimal (c .position)) + length (decimal (c .speed)) + length (decimal (c .length)) + length (decimal (c .rate))
 unfolding carrierText
 length-carrier c = simp (length-append, length-line) (omega arith)
 
--- the lines of a carrier have at most 24 bytes beside the digits, 5, 10, 4 and 5
+-- the lines of a carrier have 31 bytes beside the digits, at most 5, 10, 4, 5 and 3
 carriers-length : (road : Road) → SoundRoad road → (cs : List Carrier) → anyOf (unlawful road) cs ≡ false → anyOf (pastEnd road) cs ≡ false
-    → length (carriersText cs) ≤ 48 * length cs
+    → length (carriersText cs) ≤ 58 * length cs
 unfolding carriersText anyOf
 carriers-length road r [] e p = omega arith
 carriers-length road r (c ∷ cs) e p =
@@ -51,6 +51,7 @@ carriers-length road r (c ∷ cs) e p =
     let position = decimal-at-most 10 (c .position) (omega arith) (omega arith) in
     let speed = decimal-at-most 4 (c .speed) (omega arith) (omega arith) in
     let long = decimal-at-most 5 (c .length) (omega arith) (omega arith) in
+    let rate = decimal-at-most 3 (c .rate) (omega arith) (omega arith) in
     rw (length-append (carrierText c) (carriersText cs), length-carrier c) (omega (arith, carriers-length road r cs (here .1) (before .1)))
 
 -- so that no text is longer than the longest
@@ -84,24 +85,30 @@ length-next d l i count h k = ap length (carriers-next d l i count h k) ∙ simp
 
 -- ---- writes
 
-pub put-carrier : (at : ℕ) (c : Carrier) (buffer : List ℕ) {p q r end : ℕ} {out₁ out₂ out₃ out : List ℕ} → at + length (carrierText c) ≤ length buffer
+pub put-carrier : (at : ℕ) (c : Carrier) (buffer : List ℕ) {p q r s end : ℕ} {out₁ out₂ out₃ out₄ out : List ℕ} → at + length (carrierText c) ≤ length buffer
     → Put at (line carKey (decimal (c .number))) buffer out₁ p
     → Put p (line atKey (decimal (c .position))) out₁ out₂ q
     → Put q (line speedKey (decimal (c .speed))) out₂ out₃ r
-    → Put r (line lengthKey (decimal (c .length))) out₃ out end
+    → Put r (line lengthKey (decimal (c .length))) out₃ out₄ s
+    → Put s (line brakeKey (decimal (c .rate))) out₄ out end
     → (out ≡ written at (carrierText c) buffer) × (end ≡ at + length (carrierText c))
 unfolding carrierText
-put-carrier at c buffer room w x y z =
+put-carrier at c buffer room v w x y z =
     let number = line carKey (decimal (c .number)) in
     let position = line atKey (decimal (c .position)) in
     let speed = line speedKey (decimal (c .speed)) in
     let long = line lengthKey (decimal (c .length)) in
-    let whole : at + length (number ++ position ++ speed ++ long) ≤ length buffer = rw (append-assoc, append-assoc) room in
+    let rate = line brakeKey (decimal (c .rate)) in
+    let whole : at + length (number ++ position ++ speed ++ long ++ rate) ≤ length buffer = rw (append-assoc, append-assoc, append-assoc) room in
+    let four : at + length (number ++ position ++ speed ++ long) ≤ length buffer = omega (arith, length-append (number ++ position ++ speed ++ long) rate) in
     let three : at + length (number ++ position ++ speed) ≤ length buffer = omega (arith, length-append (number ++ position ++ speed) long) in
-    let both = put-both at number position buffer (omega (arith, length-append (number ++ position) speed)) w x in
-    let but-one = put-both at (number ++ position) speed buffer three both y in
-    let all = put-both at (number ++ position ++ speed) long buffer whole but-one z in
-    (rw (append-assoc, append-assoc) at (all .0), rw (append-assoc, append-assoc) at (all .1 ∙ place-fits at (number ++ position ++ speed ++ long) buffer whole))
+    let two = put-both at number position buffer (omega (arith, length-append (number ++ position) speed)) v w in
+    let with-speed = put-both at (number ++ position) speed buffer three two x in
+    let but-one = put-both at (number ++ position ++ speed) long buffer four with-speed y in
+    let all = put-both at (number ++ position ++ speed ++ long) rate buffer whole but-one z in (
+      rw (append-assoc, append-assoc, append-assoc) at (all .0),
+      rw (append-assoc, append-assoc, append-assoc) at (all .1 ∙ place-fits at (number ++ position ++ speed ++ long ++ rate) buffer whole),
+    )
 
 -- what a loop over the carriers has written: those from i on are still to be put, and there is room
 pub record Writing (carriers : List Carrier) (count at₀ : ℕ) (out₀ out : List ℕ) (at i : ℕ) : Type 0 where

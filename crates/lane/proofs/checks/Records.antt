@@ -129,7 +129,7 @@ carriers-are l₀ l cycle count records cs e t k h p =
 
 -- the row of a carrier
 rowFor : Carrier → List ℕ
-rowFor c = c .number ∷ c .position ∷ c .speed ∷ c .length ∷ []
+rowFor c = c .number ∷ c .position ∷ c .speed ∷ c .length ∷ c .rate ∷ []
 
 read-back : (cs : List Carrier) → map recordIn (map rowFor cs) ≡ cs
 unfolding rowFor

@@ -16,9 +16,9 @@ use Rattle.lane.specs.Surface.{unsound, rowIn}
 use Rattle.lane.specs.Layout.{Words, figuresIn, tablesIn, recordsIn, stateWith, stateOf}
 use Rattle.lane.specs.State.{State}
 use Rattle.lane.specs.Safety.{laneSafe, anyOf, repeats}
-use Rattle.lane.specs.Rules.{outsideOf, badNumber, roadNo, tooFast, tooLong, unlawful, pastEnd, faulty, broken, newcomerNo}
-use Rattle.lane.specs.Calls.{onSurface}
-use Rattle.lane.proofs.Newcomers.{Newcomer, newcomer-is}
+use Rattle.lane.specs.Rules.{outsideOf, badNumber, roadNo, tooFast, tooLong, badRate, unlawful, pastEnd, faulty, broken, newcomerNo}
+use Rattle.lane.specs.Calls.{none, onSurface}
+use Rattle.lane.proofs.Newcomers.{within, Newcomer, newcomer-is}
 use Rattle.lane.proofs.lists.Lists.{slice-next}
 use Rattle.lane.proofs.lists.Tests.{neither, none-at, none-of, any-or}
 use Rattle.lane.proofs.lists.Passed.{passed}
@@ -31,9 +31,6 @@ pub record SoundRoad (road : Road) : Type 0 where
   pub end-most : road .end ≤ 2147483648
   pub limit-least : 1 ≤ road .limit
   pub limit-most : road .limit ≤ 8192
-
-within : (low high n : ℕ) → outsideOf low high n ≡ false → (low ≤ n) × (n ≤ high)
-within low high n e = let t = neither (ltb n low) (ltb high n) e in (ltb-false n low (t .0), ltb-false high n (t .1))
 
 pub sound-road : (road : Road) → roadNo road ≡ 0 → SoundRoad road
 unfolding roadNo
@@ -74,21 +71,34 @@ pub record Fit (road : Road) (c : Carrier) : Type 0 where
   pub number-most : c .number ≤ 65535
   pub slow : c .speed ≤ road .limit
   pub short : c .length ≤ 65535
+  pub rate-least : 1 ≤ c .rate
+  pub rate-most : c .rate ≤ 255
   pub before-end : c .position < road .end + c .length
 
 pub fit : (road : Road) (c : Carrier) → unlawful road c ≡ false → pastEnd road c ≡ false → Fit road c
 unfolding unlawful pastEnd
 fit road c e p =
-    let t = neither (badNumber (c .number) || tooFast road c) (tooLong c) e in
+    let s = neither (badNumber (c .number) || tooFast road c || tooLong c) (badRate (c .rate)) e in
+    let t = neither (badNumber (c .number) || tooFast road c) (tooLong c) (s .0) in
     let u = neither (badNumber (c .number)) (tooFast road c) (t .0) in
     let number = within 1 65535 (c .number) (u .0) in
+    let rate = within 1 255 (c .rate) (s .1) in
     record {
       number-least = number .0;
       number-most = number .1;
       slow = ltb-false (road .limit) (c .speed) (u .1);
       short = ltb-false 65535 (c .length) (t .1);
+      rate-least = rate .0;
+      rate-most = rate .1;
       before-end = leb-false (road .end + c .length) (c .position) p;
     }
+
+-- so that lawful carriers have rates
+pub rated-at : (road : Road) (cs : List Carrier) → anyOf (unlawful road) cs ≡ false → (i : ℕ) → i < length cs → 1 ≤ getD cs i none .rate
+unfolding unlawful
+rated-at road cs e i h =
+    let c = getD cs i none in
+    within 1 255 (c .rate) (neither (badNumber (c .number) || tooFast road c || tooLong c) (badRate (c .rate)) (none-at (unlawful road) cs i none e h) .1) .0
 
 -- a newcomer that passes its own checks: where its front is before the end, its tail is
 pub newcomer-lawful : (road : Road) (c : Carrier) → Newcomer road c → unlawful road c ≡ false
@@ -99,6 +109,8 @@ newcomer-lawful road c h =
       le-ltb 65535 (c .number) (h .number-most),
       le-ltb (road .limit) (c .speed) (h .slow),
       le-ltb 65535 (c .length) (h .short),
+      le-ltb (c .rate) 1 (h .rate-least),
+      le-ltb 255 (c .rate) (h .rate-most),
     )
     refl
 
@@ -109,7 +121,15 @@ newcomer-before-end road c h = lt-leb (road .end + c .length) (c .position) (ome
 pub newcomer-fit : (road : Road) (c : Carrier) → newcomerNo road c ≡ 0 → Fit road c
 newcomer-fit road c e =
     let h = newcomer-is road c e in
-    record { number-least = h .number-least; number-most = h .number-most; slow = h .slow; short = h .short; before-end = omega (arith, h .front-before-end) }
+    record {
+      number-least = h .number-least;
+      number-most = h .number-most;
+      slow = h .slow;
+      short = h .short;
+      rate-least = h .rate-least;
+      rate-most = h .rate-most;
+      before-end = omega (arith, h .front-before-end);
+    }
 
 -- its numbers are 32 bits wide, its position even with a length added, and its speed within every limit
 pub record Narrow (c : Carrier) : Type 0 where

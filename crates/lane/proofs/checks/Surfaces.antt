@@ -1,4 +1,4 @@
--- The surface rows: what is known of a sound row, and of each row of a table of which none is unsound.
+-- The surface rows: what is known of a sound row, of a carrier's guaranteed braking by it, and of each row of a table of which none is unsound.
 use mathlib.Core.Path.{_≡_, refl}
 use mathlib.Core.Bool.{Bool, true, false, not, or-true}
 use mathlib.Core.List.{List}
@@ -8,7 +8,9 @@ use native.Mathlib.Numerals.{add-one}
 use native.Mathlib.Omega.{arith}
 use borrow.Author.Tests.{leb-true, eqb-true, eqb-false, not-false}
 use lib.Dec.{eqb, leb}
+use Rattle.lane.specs.declared.Carrier.{Carrier}
 use Rattle.lane.specs.declared.Row.{Row}
+use Rattle.lane.specs.Safety.{guaranteedRate}
 use Rattle.lane.specs.Surface.{rowOf, soundRow, unsoundBelow, unsound}
 use Rattle.lane.proofs.lists.Passed.{both}
 use Rattle.lane.proofs.lists.Tests.{neither}
@@ -38,6 +40,14 @@ sound-row r e =
 -- what a function requires of the row that it is handed
 pub row-brakes : (r : Row) → SoundRow r → (1 ≤ r .guaranteed) × (1 ≤ r .hardest)
 row-brakes r s = (s .brakes, le-trans (s .brakes) (s .brakes-harder))
+
+-- and with it of a carrier, whose own rate may be above the row's or below it
+pub rate-brakes : (r : Row) (c : Carrier) → (1 ≤ r .guaranteed) × (1 ≤ r .hardest) → 1 ≤ c .rate → (1 ≤ guaranteedRate r c) × (1 ≤ r .hardest)
+rate-brakes r c s h = (omega (arith, s .0), s .1)
+
+-- "the guaranteed one at most the hardest", whatever the own rate
+pub rate-no-harder : (r : Row) (c : Carrier) → SoundRow r → guaranteedRate r c ≤ r .hardest
+rate-no-harder r c s = omega (arith, s .brakes-harder)
 
 -- ---- a table
 module _ (rows : List Row) where

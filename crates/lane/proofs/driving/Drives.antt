@@ -38,7 +38,7 @@ braking-leads b v limit h = leads v (braking b v) (v - b) limit (braking-speed b
 -- ---- where an acceleration leads
 pub moved-is : (c : Carrier) (a : ℤ) → Leads (c .speed) a 8192 → (x y : ℕ) → y ≡ speedAfter (c .speed) a
     → x ≡ positionAfter (c .position) (c .speed) (pos y -ℤ pos (c .speed))
-    → record { number = c .number; position = x; speed = y; length = c .length } ≡ moved c a
+    → record { number = c .number; position = x; speed = y; length = c .length; rate = c .rate } ≡ moved c a
 unfolding moved
 moved-is c a l x y q p =
     let there = ap (λ (u : ℕ). positionAfter (c .position) (c .speed) (pos u -ℤ pos (c .speed))) q in

@@ -22,7 +22,7 @@ use Rattle.lane.specs.Wishes.{trimmed, stands, drive, drives, moved, all
 use Rattle.lane.specs.Calls.{none}
 use Rattle.lane.proofs.lists.Passed.{both}
 use Rattle.lane.proofs.calls.Order.{aheadIn, ahead-leader, safe-behind-leader, descends}
-use Rattle.lane.proofs.checks.Surfaces.{SoundRow}
+use Rattle.lane.proofs.checks.Surfaces.{SoundRow, row-brakes, rate-brakes, rate-no-harder}
 
 abbrev pub accelerationsIn : List Drive → List ℤ
 accelerationsIn = map (λ d. d .acceleration)
@@ -30,6 +30,10 @@ accelerationsIn = map (λ d. d .acceleration)
 -- the test of a carrier behind a leader, with an acceleration
 abbrev pub testedBehind : Row → Carrier → Carrier → ℤ → Bool
 testedBehind r a c w = restsBehind (guaranteedRate r c) (r .hardest) (reachTo a c) (c .speed) w (a .position) (a .speed)
+
+-- carriers that each have a rate
+abbrev pub Rated : List Carrier → Type 0
+Rated cs = (i : ℕ) → i < length cs → 1 ≤ getD cs i none .rate
 
 -- ---- what is driven at a place
 module _ {B : Type 0} (f : Drive → B) (other : B) (r : Row) (limit : ℕ) where
@@ -55,7 +59,7 @@ module _ (r : Row) (sound : SoundRow r) (limit : ℕ) where
   wish-no-harder c z = rw (braking-is (r .hardest) (c .speed)) (no-harder z (c .speed) (r .hardest) (r .most) limit)
 
   guaranteed-no-harder : (c : Carrier) → braking (r .hardest) (c .speed) ≤ℤ braking (guaranteedRate r c) (c .speed)
-  guaranteed-no-harder c = braking-order (guaranteedRate r c) (r .hardest) (c .speed) (sound .brakes-harder)
+  guaranteed-no-harder c = braking-order (guaranteedRate r c) (r .hardest) (c .speed) (rate-no-harder r c sound)
 
   drive-no-harder : (ahead : Ahead) (c : Carrier) (z : ℤ) → braking (r .hardest) (c .speed) ≤ℤ drive r limit ahead c z .acceleration
   unfolding drive
@@ -65,11 +69,15 @@ module _ (r : Row) (sound : SoundRow r) (limit : ℕ) where
       by-test true = wish-no-harder c z
       by-test false = guaranteed-no-harder c
 
-  module _ (a c : Carrier) (safe : safeWith r (leader a) c ≡ true) where
+  -- the rate of a carrier that has one
+  brakes : (c : Carrier) → 1 ≤ c .rate → 1 ≤ guaranteedRate r c
+  brakes c h = rate-brakes r c (row-brakes r sound) h .0
+
+  module _ (a c : Carrier) (rated : 1 ≤ c .rate) (safe : safeWith r (leader a) c ≡ true) where
     braked-passes : (w : ℤ) → braking (r .hardest) (c .speed) ≤ℤ w → w ≤ℤ braking (guaranteedRate r c) (c .speed) → testedBehind r a c w ≡ true
     unfolding safeWith
     braked-passes w lo hi =
-        braking-passes (guaranteedRate r c) (r .hardest) (reachTo a c) (c .speed) w (a .position) (a .speed) (sound .brakes) (sound .brakes-harder) safe lo hi
+        braking-passes (guaranteedRate r c) (r .hardest) (reachTo a c) (c .speed) w (a .position) (a .speed) (brakes c rated) (rate-no-harder r c sound) safe lo hi
 
     -- whoever is safe may brake, so that a wish stands exactly where it passes the test
     stands-is : (w : ℤ) → braking (r .hardest) (c .speed) ≤ℤ w → stands r (leader a) c w ≡ testedBehind r a c w
@@ -102,7 +110,7 @@ module _ (r : Row) (sound : SoundRow r) (limit : ℕ) where
           let at-least = not-past-rest (r .hardest) (c .speed) w (drive-no-harder (leader a) c z) in
           rw (← position-moved (c .position) (a .length) (c .speed) w _ (sym (speed-sum (c .speed) w at-least)))
           (cycle-keeps-safe (guaranteedRate r c) (r .hardest) (reachTo a c) (c .speed) (drive r limit (leader a) c z .acceleration) (a .position) (a .speed) b
-          (sound .brakes) (sound .brakes-harder) safe (drive-passes z) (drive-no-harder (leader a) c z) lo)
+          (brakes c rated) (rate-no-harder r c sound) safe (drive-passes z) (drive-no-harder (leader a) c z) lo)
 
       -- the front is below the tail of the one ahead
       pair-apart : (n k : ℕ) → 1 ≤ n → k ≤ n
@@ -111,25 +119,25 @@ module _ (r : Row) (sound : SoundRow r) (limit : ℕ) where
       pair-apart n k hn hk =
           rw (← fraction-moved n k (c .position) (a .length) (c .speed) (drive r limit (leader a) c z .acceleration))
           (apart-at (guaranteedRate r c) (r .hardest) (reachTo a c) (c .speed) (drive r limit (leader a) c z .acceleration) (a .position) (a .speed) b
-          (sound .brakes) (sound .brakes-harder) safe (drive-passes z) (drive-no-harder (leader a) c z) lo n k hn hk)
+          (brakes c rated) (rate-no-harder r c sound) safe (drive-passes z) (drive-no-harder (leader a) c z) lo n k hn hk)
 
   -- ---- the lane after the cycle
   moved-from : (ahead after : Ahead)
-      → ((c : Carrier) (z : ℤ) → safeWith r ahead c ≡ true → safeWith r after (moved c (drive r limit ahead c z .acceleration)) ≡ true)
-      → (cs : List Carrier) (zs : List ℤ) → safeFrom r ahead cs ≡ true → safeFrom r after (allMoved cs (drives r limit ahead cs zs)) ≡ true
+      → ((c : Carrier) (z : ℤ) → 1 ≤ c .rate → safeWith r ahead c ≡ true → safeWith r after (moved c (drive r limit ahead c z .acceleration)) ≡ true)
+      → (cs : List Carrier) (zs : List ℤ) → Rated cs → safeFrom r ahead cs ≡ true → safeFrom r after (allMoved cs (drives r limit ahead cs zs)) ≡ true
   unfolding safeFrom allMoved drives
-  moved-from ahead after first [] zs s = refl
-  moved-from ahead after first (c ∷ cs) [] s = refl
-  moved-from ahead after first (c ∷ cs) (z ∷ zs) s =
+  moved-from ahead after first [] zs rated s = refl
+  moved-from ahead after first (c ∷ cs) [] rated s = refl
+  moved-from ahead after first (c ∷ cs) (z ∷ zs) rated s =
       let h = both (safeWith r ahead c) (safeFrom r (leader c) cs) s in
       let b = drive r limit ahead c z .acceleration in
-      rw (first c z (h .0))
-      (moved-from (leader c) (leader (moved c b)) (λ d v safe. pair-safe c d safe b (drive-no-harder ahead c z) v) cs zs (h .1))
+      rw (first c z (rated 0 (omega arith)) (h .0))
+      (moved-from (leader c) (leader (moved c b)) (λ d v own safe. pair-safe c d own safe b (drive-no-harder ahead c z) v) cs zs (λ i p. rated (suc i) (omega arith)) (h .1))
 
-  module _ (cs : List Carrier) (zs : List ℤ) (safe : laneSafe r cs ≡ true) where
+  module _ (cs : List Carrier) (zs : List ℤ) (rated : Rated cs) (safe : laneSafe r cs ≡ true) where
     pub moved-safe : laneSafe r (allMoved cs (drives r limit nobody cs zs)) ≡ true
     unfolding laneSafe safeWith
-    moved-safe = moved-from nobody nobody (λ c z s. refl) cs zs safe
+    moved-safe = moved-from nobody nobody (λ c z own s. refl) cs zs rated safe
 
     module _ (wished : length cs ≤ length zs) where
       -- ---- at a fraction of the cycle
@@ -157,7 +165,7 @@ module _ (r : Row) (sound : SoundRow r) (limit : ℕ) where
         neighbours : (i : ℕ) → suc i < length cs → front (suc i) + n * n * at i .length < front i
         neighbours i h =
             let here : i < length cs = omega arith in
-            let apart = pair-apart (at i) (at (suc i)) (safe-behind-leader r cs safe i h)
+            let apart = pair-apart (at i) (at (suc i)) (rated (suc i) h) (safe-behind-leader r cs safe i h)
             (drive r limit (aheadIn nobody i cs) (at i) (getD zs i (pos 0)) .acceleration)
             (drive-no-harder (aheadIn nobody i cs) (at i) (getD zs i (pos 0))) (getD zs (suc i) (pos 0)) n k hn hk in
             let told : (positionAt n k (at (suc i) .position) (at (suc i) .speed) (driven (suc i)) +ℤ pos (n * n * at i .length)) <ℤ positionAt n k (at i .position) (at i .speed) (driven i) =
@@ -181,7 +189,7 @@ module _ (r : Row) (sound : SoundRow r) (limit : ℕ) where
           let here : suc i < length cs = ltb-true (suc i) (length cs) e in
           let before : suc i - 1 ≡ i = omega arith in
           rw (lt-ltb 0 (suc i) (omega arith), before, drives-at (λ d. d .replaced) false r limit nobody cs zs (suc i) here wished, ahead-leader nobody i cs (omega arith))
-          (replaced-by-test (getD cs i none) (getD cs (suc i) none) (safe-behind-leader r cs safe i here) (getD zs (suc i) (pos 0)))
+          (replaced-by-test (getD cs i none) (getD cs (suc i) none) (rated (suc i) here) (safe-behind-leader r cs safe i here) (getD zs (suc i) (pos 0)))
 
       pub replaced-is : (i : ℕ) → getD (replacedIn (drives r limit nobody cs zs)) i false
           ≡ ltb 0 i && (ltb i (length cs) && not (testedBehind r (getD cs (i - 1) none) (getD cs i none) (trimmed r limit (getD cs i none) (getD zs i (pos 0)))))

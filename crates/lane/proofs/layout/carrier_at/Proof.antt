@@ -1,4 +1,4 @@
--- A row's first four words are its record.
+-- A row's first five words are its record.
 use borrow.Author.Needs.{needs}
 use Rattle.lane.proofs.checks.Records.{record-at}
 use Rattle.lane.proofs.layout.carrier_at.Statement.{statement}
@@ -25,6 +25,9 @@ array-read-t17 c = search needs
 array-read-t20 : tie.Need-array-read-t20
 array-read-t20 c = search needs
 
+array-read-t23 : tie.Need-array-read-t23
+array-read-t23 c = search needs
+
 returns : tie.Need-returns
 returns c = record-at (c .before .args .l .now) (c .before .args .place)
 
@@ -39,4 +42,5 @@ carrier-at-spec =
     array-read-t14
     array-read-t17
     array-read-t20
+    array-read-t23
     returns)

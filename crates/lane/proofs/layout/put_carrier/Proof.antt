@@ -22,9 +22,6 @@ array-read-t15 c = search needs
 array-read-t18 : tie.Need-array-read-t18
 array-read-t18 c = search needs
 
-array-read-t21 : tie.Need-array-read-t21
-array-read-t21 c = search needs
-
 add-t5 : tie.Need-add-t5
 add-t5 c = search needs
 
@@ -47,7 +44,6 @@ put-carrier-spec =
     array-read-t12
     array-read-t15
     array-read-t18
-    array-read-t21
     add-t5
     mul-t6
     element-set-from-l

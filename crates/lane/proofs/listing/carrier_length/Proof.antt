@@ -1,4 +1,4 @@
--- `lane::listing::carrier_length` meets its contract: the keys and newlines are 24 bytes, and each of the four words has at most 20 digits.
+-- `lane::listing::carrier_length` meets its contract: the keys and newlines are 31 bytes, and each of the five words has at most 20 digits.
 use borrow.Author.Needs.{needs}
 use Prim.Native.Nat.{_≤_}
 use native.Mathlib.Omega.{arith}
@@ -15,9 +15,17 @@ record Few (x : Carrier) : Type 0 where
   position : length (decimal (x .position)) ≤ 20
   speed : length (decimal (x .speed)) ≤ 20
   long : length (decimal (x .length)) ≤ 20
+  rate : length (decimal (x .rate)) ≤ 20
 
 few : (c : tie.Start) → Few (c .args .c)
-few c = record { number = digits-64 _ (search needs); position = digits-64 _ (search needs); speed = digits-64 _ (search needs); long = digits-64 _ (search needs) }
+few c =
+    record {
+      number = digits-64 _ (search needs);
+      position = digits-64 _ (search needs);
+      speed = digits-64 _ (search needs);
+      long = digits-64 _ (search needs);
+      rate = digits-64 _ (search needs);
+    }
 
 decimal-length-requires : tie.Need-decimal-length-requires
 decimal-length-requires c κs = search needs
@@ -43,9 +51,15 @@ decimal-length-requires-4 c κs = search needs
 add-result-4 : tie.Need-add-result-4
 add-result-4 c = omega (arith, few (c .before .before .before .before))
 
+decimal-length-requires-5 : tie.Need-decimal-length-requires-5
+decimal-length-requires-5 c κs = search needs
+
+add-result-5 : tie.Need-add-result-5
+add-result-5 c = omega (arith, few (c .before .before .before .before .before))
+
 returns : tie.Need-returns
 returns c =
-    let s = c .before .before .before .before in
+    let s = c .before .before .before .before .before in
     (omega (arith, length-carrier (s .args .c)), omega (arith, few s))
 
 pub carrier-length-spec : {M : Type 1} → statement M
@@ -60,4 +74,6 @@ carrier-length-spec =
     add-result-3
     decimal-length-requires-4
     add-result-4
+    decimal-length-requires-5
+    add-result-5
     returns)

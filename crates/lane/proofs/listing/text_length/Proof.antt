@@ -20,7 +20,7 @@ Inv-loop l f n₀ i₀ n i =
     (length (recordsIn l) ≡ 64)
     × ((f .count ≤ 64)
     × ((i ≤ f .count)
-    × ((n ≤ 26 + 104 * i)
+    × ((n ≤ 26 + 131 * i)
     × (n + length (carriersText (slice i (f .count) (recordsIn l))) ≡ n₀ + length (carriersText (take (f .count) (recordsIn l)))))))
 
 abbrev μ-loop : tie.MeasureT-loop

@@ -15,6 +15,7 @@ use Rattle.lane.specs.Layout.{figuresIn, tablesIn, recordsIn}
 use Rattle.lane.specs.Wishes.{drive, moved}
 use Rattle.lane.specs.Calls.{none}
 use Rattle.lane.proofs.checks.Records.{same-head}
+use Rattle.lane.proofs.checks.Surfaces.{rate-brakes}
 use Rattle.lane.proofs.checks.Soundness.{SoundRoad, sound-road, Fit, fit-of, faultless, Narrow, fit-narrow}
 use Rattle.lane.proofs.driving.Cycles.{aheadAt, Driving, driving-start, word-below, here, driving-on, all-marked, all-kept}
 use Rattle.lane.proofs.motion.drive_all.Statement.{statement}
@@ -98,7 +99,7 @@ drive-one-requires c κs =
     let k = c .before in
     let road = road-sound k in
     let ahead = at k .loop .inv .1 .narrow in (
-      (s k .pre .1 .1, (fit-here k .slow, road .limit-most)),
+      (rate-brakes (s k .args .row) (k .carrier-at .result) (s k .pre .1 .1) (fit-here k .rate-least), (fit-here k .slow, road .limit-most)),
       (omega (arith, narrow-here k .position, ahead .short), (omega (arith, ahead .position), ahead .speed)),
     )
 

@@ -16,6 +16,7 @@ use Rattle.lane.specs.Rules.{faulty}
 use Rattle.lane.specs.Calls.{none}
 use Rattle.lane.proofs.lists.Tests.{neither}
 use Rattle.lane.proofs.checks.Soundness.{Fit, SoundRoad, sound-road, fit, fit-narrow, faultless, fit-from}
+use Rattle.lane.proofs.checks.Surfaces.{rate-brakes}
 use Rattle.lane.proofs.checks.Gaps.{pair-narrow}
 use Rattle.lane.proofs.checks.Faults.{low, Leads, met-none, linked-none, met-next, linked-next, Passed, faulty-none, fault-next, fault-whole, gap-next, gap-past}
 use Rattle.lane.proofs.rules.any_fault.Statement.{statement}
@@ -122,7 +123,7 @@ safe-at-requires c κs =
     let h : at e .loop .i < a .count = omega arith in
     let next : Fit (a .road) (at e .loop .behind) = subst (Fit (a .road)) (sym (inv .behind-is h)) (fit-from (a .road) (l e) (a .count) (at e .loop .i) none (faultless _ _ _ (inv .faultless)) h (long e)) in
     let narrow = pair-narrow (a .road) _ _ (road-sound e) (lawful e) next in
-    ((s e .pre .1, inv .stop-is h), (narrow .0, narrow .1 .1))
+    ((rate-brakes (a .row) (at e .loop .behind) (s e .pre .1) (next .rate-least), inv .stop-is h), (narrow .0, narrow .1 .1))
 
 -- the gap to the one behind, where there is one
 gap : (c : tie.After-safe-at Inv-loop μ-loop) → let e = c .before .before in

@@ -82,11 +82,15 @@ gap-refusal-requires c κs =
     let s = known at in
     let few = length-take-le (f .count) l (omega arith) in
     let end = place-le (λ k. ltb (k .position) (a .c .position)) (take (f .count) l) in
-    let new = fit-narrow (f .road) (a .c) (s .road) (newcomer-fit (f .road) (a .c) (rw (at .figures-of .ensures .0) (at .before .pre .1))) in (
+    let own = newcomer-fit (f .road) (a .c) (rw (at .figures-of .ensures .0) (at .before .pre .1)) in
+    let new = fit-narrow (f .road) (a .c) (s .road) own in (
       (omega (arith, c .before .entry-place .ensures), (s .count, at .figures-of .ensures .1)),
       (
-        (rw (c .row-in .ensures) (row-brakes _ (row-sound s)), (new .position, (new .speed, new .short))),
-        λ i h. let n = fit-narrow (f .road) _ (s .road) (fit-of (f .road) l (f .count) i none (s .carriers) h (omega (arith, s .count))) in (n .position, (n .speed, n .short)),
+        (rw (c .row-in .ensures) (row-brakes _ (row-sound s)), (new .position, (new .speed, (new .short, own .rate-least)))),
+        λ i h.
+            let fits = fit-of (f .road) l (f .count) i none (s .carriers) h (omega (arith, s .count)) in
+            let n = fit-narrow (f .road) _ (s .road) fits in
+            (n .position, (n .speed, (n .short, fits .rate-least))),
       ),
     )
 

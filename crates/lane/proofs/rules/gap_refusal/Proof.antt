@@ -12,6 +12,7 @@ use lib.Seq.{getD-take, length-take-le}
 use Rattle.lane.specs.Layout.{recordsIn}
 use Rattle.lane.specs.Safety.{leader, safeWith}
 use Rattle.lane.specs.Calls.{none, aheadOf, gapNo}
+use Rattle.lane.proofs.checks.Surfaces.{rate-brakes}
 use Rattle.lane.proofs.checks.Gaps.{ahead-is, ahead-nobody}
 use Rattle.lane.proofs.rules.gap_refusal.Statement.{statement}
 use Rattle.lane.proofs.rules.gap_refusal.Tie as tie
@@ -27,7 +28,7 @@ safe-requires c κs =
     let s = c .before .before in
     let own = s .pre .1 .0 in
     let ahead = rw (← c .carrier-at .ensures) at (s .pre .1 .1 (s .args .place - 1) (omega arith)) in
-    (own .0, (omega (arith, own .1, ahead), (own .1 .1 .0, (omega (arith, ahead), ahead .1 .0))))
+    (rate-brakes (s .args .row) (s .args .c) (own .0) (own .1 .1 .1 .1), (omega (arith, own .1, ahead), (own .1 .1 .0, (omega (arith, ahead), ahead .1 .0))))
 
 -- the first test, where someone is ahead
 ahead-tested : (c : tie.After-safe) → let a = c .before .before .before .args in
@@ -65,7 +66,7 @@ safe-requires-2 c κs =
     let s = c .before .before .before in
     let own = s .pre .1 .0 in
     let behind = rw (← c .carrier-at2 .ensures) at (s .pre .1 .1 (s .args .place) (omega arith)) in
-    (own .0, (omega (arith, own .1, behind), (behind .1 .0, (omega (arith, own .1), own .1 .1 .0))))
+    (rate-brakes (s .args .row) (c .carrier-at2 .result) (own .0) (behind .1 .1 .1), (omega (arith, own .1, behind), (behind .1 .0, (omega (arith, own .1), own .1 .1 .0))))
 
 -- the second test, where someone is behind
 behind-tested : (c : tie.After-safe2) → let a = c .before .before .before .before .args in let cs = take (a .count) (recordsIn (a .l .now)) in

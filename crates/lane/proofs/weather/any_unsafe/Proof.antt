@@ -11,6 +11,7 @@ use Rattle.lane.specs.declared.Carrier.{Carrier}
 use Rattle.lane.specs.Layout.{recordsIn}
 use Rattle.lane.specs.Safety.{leader, safeWith}
 use Rattle.lane.specs.Calls.{none}
+use Rattle.lane.proofs.checks.Surfaces.{rate-brakes}
 use Rattle.lane.proofs.calls.Order.{Clear, clear-first, clear-on, clear-all, clear-not}
 use Rattle.lane.proofs.weather.any_unsafe.Statement.{statement}
 use Rattle.lane.proofs.weather.any_unsafe.Tie as tie
@@ -39,7 +40,7 @@ safe-requires c κs =
     let s = at .before in
     let ahead = rw (← c .before .carrier-at .ensures) at (s .pre .1 .1 (at .loop .place - 1) (omega arith)) in
     let own = rw (← c .carrier-at2 .ensures) at (s .pre .1 .1 (at .loop .place) (omega arith)) in
-    (s .pre .1 .0, (omega (arith, own, ahead), (own .1 .0, (omega (arith, ahead), ahead .1 .0))))
+    (rate-brakes (s .args .row) (c .carrier-at2 .result) (s .pre .1 .0) (own .1 .1 .1), (omega (arith, own, ahead), (own .1 .0, (omega (arith, ahead), ahead .1 .0))))
 
 -- the pair at the place
 module _ (k : tie.After-safe Inv-loop μ-loop) where

@@ -70,8 +70,9 @@ any-unsafe-requires c κs =
       (
         rw (c .row-in .ensures) (row-brakes _ (sound-at _ _ (known at) (h .in-force))),
         λ i p.
-            let wide = fit-narrow _ _ (h .road) (fit-of (f at .road) (recordsIn (l at)) (f at .count) i none (h .carriers) p (omega (arith, h .count, at .figures-of .ensures .1))) in
-            (wide .position, (wide .speed, wide .short)),
+            let fits = fit-of (f at .road) (recordsIn (l at)) (f at .count) i none (h .carriers) p (omega (arith, h .count, at .figures-of .ensures .1)) in
+            let wide = fit-narrow _ _ (h .road) fits in
+            (wide .position, (wide .speed, (wide .short, fits .rate-least))),
       ),
     )
 
