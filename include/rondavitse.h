@@ -3,8 +3,8 @@
  * A lane is a struct of the host's own: each call is lent it and changes it in place. A host begins with rondavitse_empty: a lane of zeros
  * has unsound rows, and a start there gives 21 until a table is loaded. `no` is 0 where a call is accepted; else it is the number of its
  * refusal, every value beside it is zero (but for a step's `next` and `stop`), and every word of the lane and every lent byte is as before.
- * Positions and lengths count 1/2048 m, speeds 1/128 m/s, accelerations 1/16 m/s²; a cycle is 1/8 s. A carrier's position is that of its
- * front; its tail is its length behind that, and may be before the lane's start.
+ * Positions and lengths count 1/2048 m, speeds 1/128 m/s, accelerations and braking rates 1/16 m/s²; a cycle is 1/8 s. A carrier's position
+ * is that of its front; its tail is its length behind that, and may be before the lane's start.
  *
  * Any words may stand in the lane and any numbers may be given: those of a call are 64 bits wide and refused past their ranges, never cut.
  * The host sees to the pointers:
@@ -32,7 +32,7 @@ extern "C" {
 
 /* The number of this interface, another one whenever a struct, a number, a constant or a function changes, a function in its form or in what it
  * answers. A host asks the library for its own before the first call: where they differ, header and library do not belong together. */
-#define RONDAVITSE_VERSION 5
+#define RONDAVITSE_VERSION 6
 uint32_t rondavitse_version(void);
 
 #define RONDAVITSE_LAST_SURFACE 7
@@ -41,9 +41,10 @@ uint32_t rondavitse_version(void);
 #define RONDAVITSE_FASTEST 8192         /* the highest speed limit */
 #define RONDAVITSE_HIGHEST_NUMBER 65535 /* of a carrier; the lowest is 1 */
 #define RONDAVITSE_LONGEST_CARRIER 65535
+#define RONDAVITSE_HIGHEST_RATE 255     /* of a row, and of a carrier's own; the lowest is 1 */
 #define RONDAVITSE_MOST_CARRIERS 64
 #define RONDAVITSE_LAST_CYCLE UINT64_MAX /* the cycle number after which no cycle is run */
-#define RONDAVITSE_LONGEST_TEXT 3080     /* bytes: a buffer that holds every lane text */
+#define RONDAVITSE_LONGEST_TEXT 3720     /* bytes: a buffer that holds every lane text */
 #define RONDAVITSE_ANSWER_BUFFER 4096    /* bytes: the least buffer of a step */
 #define RONDAVITSE_MOST_STACK 4096       /* bytes */
 
@@ -74,7 +75,8 @@ enum rondavitse_refusal {
     RONDAVITSE_TABLE_UNSOUND = 31,
     RONDAVITSE_LANE_OCCUPIED = 32,
     RONDAVITSE_LENGTH_TOO_LARGE = 33,
-    RONDAVITSE_SURFACE_UNSAFE = 34
+    RONDAVITSE_SURFACE_UNSAFE = 34,
+    RONDAVITSE_RATE_OUT_OF_RANGE = 35
 };
 
 static inline const char *rondavitse_words(uint32_t no) {
@@ -105,12 +107,14 @@ static inline const char *rondavitse_words(uint32_t no) {
     case RONDAVITSE_LANE_OCCUPIED: return "carriers are on the lane";
     case RONDAVITSE_LENGTH_TOO_LARGE: return "length above 65,535";
     case RONDAVITSE_SURFACE_UNSAFE: return "the lane would not be safe on that surface";
+    case RONDAVITSE_RATE_OUT_OF_RANGE: return "own rate outside 1 to 255";
     default: return "unknown refusal";
     }
 }
 
-/* A surface is a code that stands for a row: guaranteed braking b, hardest braking B and most acceleration A, in 1/16 m/s². A row is sound
- * if b is 1 to B, B at most 255 and A 1 to 255. The house rows, which serve until a table is loaded:
+/* A surface is a code that stands for a row: guaranteed braking b, which a carrier's own rate may lower, hardest braking B, with which a
+ * carrier ahead is reckoned, whatever its own rate, and most acceleration A, in 1/16 m/s². A row is sound if b is 1 to B, B at most 255 and A
+ * 1 to 255. The house rows, which serve until a table is loaded:
  *     code   0    1    2    3    4    5    6    7
  *     b     64   56   48   40   32   16    6    1
  *     B    128  120  112   96   96   64   48  255
@@ -134,6 +138,7 @@ typedef struct rondavitse_carrier {
     uint64_t position;
     uint64_t speed;
     uint64_t length;
+    uint64_t rate; /* its own braking rate, 1/16 m/s², 1 to 255: its guaranteed braking is the smaller of it and the row's b */
 } rondavitse_carrier;
 
 /* A carrier as it stands in the lane: its front may be past the lane end, its tail is before it. */
@@ -142,7 +147,8 @@ typedef struct rondavitse_record {
     uint64_t position;
     uint64_t speed;
     uint64_t length;
-    uint64_t free[4];
+    uint64_t rate;
+    uint64_t free[3];
 } rondavitse_record;
 
 /* The first `count` records are the carriers, front to back. An unsound row in either set gets 21, but for what is said at load and start; a
@@ -209,13 +215,14 @@ uint32_t rondavitse_load(rondavitse_lane *lane, const uint8_t *text, size_t text
 uint32_t rondavitse_start(rondavitse_lane *lane, rondavitse_road road, uint64_t first);
 
 /* Changes the surface between cycles, as when it rains; gives `no`. The word `surface` becomes the code, and every other word of the lane, free
- * ones and idle records included, stays as it was. The whole lane has to be safe under the code's row among `rows`, by which trimming, braking,
- * wishes, entries and 21 then go. The code in force is accepted on every lane that 21 passes, and so is every code up to 7 where no carrier
- * behind the foremost moves: a host that gets 34 lets them slow down and asks again. Checks: 21, 1, 34. */
+ * ones and idle records included, stays as it was. The whole lane has to be safe under the code's row among `rows`, each carrier by its own
+ * guaranteed braking on it; by that row trimming, braking, wishes, entries and 21 then go. The code in force is accepted on every lane that 21
+ * passes, and so is every code up to 7 where no carrier behind the foremost moves: a host that gets 34 lets them slow down and asks again.
+ * Checks: 21, 1, 34. */
 uint32_t rondavitse_surface(rondavitse_lane *lane, uint64_t surface);
 
 /* The carrier goes in at the place found, if it and the one behind it are safe there, each behind the tail of the one ahead.
- * Checks: 21, 4, 5 for its front, 6, 33, 22, 23, 25, 26. */
+ * Checks: 21, 4, 5 for its front, 6, 33, 35, 22, 23, 25, 26. */
 rondavitse_entered rondavitse_enter(rondavitse_lane *lane, rondavitse_carrier carrier);
 
 /* The carrier named comes out; gives `no`. Checks: 21, 4, 24. */
@@ -243,8 +250,8 @@ static inline uint32_t rondavitse_float(float value) {
     return bits;
 }
 
-/* One cycle: the wish of place i is of sort sorts[i] with values[i], and the first `count` are looked at. A wish stands, or guaranteed
- * braking is put in its place. Checks: 21, 27, 28, 12, 11, 7. */
+/* One cycle: the wish of place i is of sort sorts[i] with values[i], and the first `count` are looked at. A wish, which may brake harder than
+ * the carrier's own rate, stands, or the carrier's guaranteed braking is put in its place. Checks: 21, 27, 28, 12, 11, 7. */
 rondavitse_cycled rondavitse_cycle(rondavitse_lane *lane, size_t count, const uint8_t *sorts, size_t sorts_length,
                                    const uint32_t *values, size_t values_length);
 
