@@ -19,7 +19,7 @@ static rondavitse_lane standing(size_t count) {
     rondavitse_empty(&lane);
     same("start", "no", rondavitse_start(&lane, road, 0), RONDAVITSE_ACCEPTED);
     for (size_t place = 0; place < count; place++) {
-        const rondavitse_carrier carrier = {.number = place + 1, .position = (MOST - place) * APART, .speed = 0, .length = APART - 1};
+        const rondavitse_carrier carrier = {.number = place + 1, .position = (MOST - place) * APART, .length = APART - 1, .rate = 1};
         same("enter", "no", rondavitse_enter(&lane, carrier).no, RONDAVITSE_ACCEPTED);
     }
     return lane;
@@ -37,7 +37,7 @@ static void check_lookups(size_t count) {
     same("read", "no", rondavitse_read(lane, count + 1).no, RONDAVITSE_NUMBER_ABSENT);
     same("leave", "no", rondavitse_leave(lane, count + 1), RONDAVITSE_NUMBER_ABSENT);
     for (uint64_t number = 1; number <= count; number++) {
-        const rondavitse_carrier twin = {.number = number, .position = 0, .speed = 0, .length = 0};
+        const rondavitse_carrier twin = {.number = number, .rate = 1};
         same("read", "no", rondavitse_read(lane, number).no, RONDAVITSE_ACCEPTED);
         if (count < MOST) {
             same("enter", "no", rondavitse_enter(lane, twin).no, RONDAVITSE_NUMBER_PRESENT);

@@ -13,7 +13,7 @@ static const rondavitse_road ROAD = {.surface = 5, .end = 0x7A6B5C4D, .limit = 0
 static const uint64_t CYCLE = 0x1122334455667788;
 
 /* Every word of a lane, free ones included. */
-static void same_words(const char *call, const rondavitse_lane *got, const rondavitse_lane *wanted) {
+static inline void same_words(const char *call, const rondavitse_lane *got, const rondavitse_lane *wanted) {
     uint64_t words[2][WORDS];
     memcpy(words[0], got, sizeof *got);
     memcpy(words[1], wanted, sizeof *wanted);
@@ -33,7 +33,7 @@ static void same_rows(const char *call, const rondavitse_row *got, const rondavi
 }
 
 /* What counts of a lane: its figures, its rows and its carriers. */
-static void same_state(const char *call, const rondavitse_lane *got, const rondavitse_lane *wanted) {
+static inline void same_state(const char *call, const rondavitse_lane *got, const rondavitse_lane *wanted) {
     same(call, "started", got->started, wanted->started);
     same(call, "surface", got->surface, wanted->surface);
     same(call, "end", got->end, wanted->end);
@@ -47,6 +47,7 @@ static void same_state(const char *call, const rondavitse_lane *got, const ronda
         same(call, "position", got->records[i].position, wanted->records[i].position);
         same(call, "speed", got->records[i].speed, wanted->records[i].speed);
         same(call, "length", got->records[i].length, wanted->records[i].length);
+        same(call, "rate", got->records[i].rate, wanted->records[i].rate);
     }
 }
 
@@ -72,14 +73,24 @@ static rondavitse_lane unsound_lane(void) {
     return lane;
 }
 
-/* The carrier at a place, all slow and far apart, with the bytes of a figure unlike each other. */
+/* The carrier at a place, all slow and far apart, with the bytes of a figure unlike each other; own rates are above every row's b. */
 static rondavitse_carrier carrier_at(size_t place) {
     return (rondavitse_carrier){
         .number = 0xA1C2 + 0x0101 * place,
         .position = 0x7A69584C - 0x01010101 * place,
         .speed = 0x0102 + place,
         .length = 0x8483 + 0x0101 * place,
+        .rate = 120 + place,
     };
+}
+
+/* A record's free words stay. */
+static void put_carrier(rondavitse_record *record, rondavitse_carrier carrier) {
+    record->number = carrier.number;
+    record->position = carrier.position;
+    record->speed = carrier.speed;
+    record->length = carrier.length;
+    record->rate = carrier.rate;
 }
 
 /* A sound lane; its free words and the records past the carriers hold anything. */
@@ -92,11 +103,7 @@ static rondavitse_lane lane_of(size_t count) {
     lane.count = count;
     put_rows(lane.rows, IN_FORCE);
     for (size_t place = 0; place < count; place++) {
-        const rondavitse_carrier c = carrier_at(place);
-        lane.records[place].number = c.number;
-        lane.records[place].position = c.position;
-        lane.records[place].speed = c.speed;
-        lane.records[place].length = c.length;
+        put_carrier(&lane.records[place], carrier_at(place));
     }
     return lane;
 }
@@ -120,13 +127,30 @@ static inline size_t wanted_text(char *text, const rondavitse_lane *lane) {
     size_t length = (size_t)sprintf(text, "cars=%" PRIu64 "\n", lane->count);
     for (size_t place = 0; place < lane->count; place++) {
         const rondavitse_record *c = &lane->records[place];
-        length += (size_t)sprintf(text + length, "car=%" PRIu64 "\nat=%" PRIu64 "\nspeed=%" PRIu64 "\nlength=%" PRIu64 "\n", c->number,
-                                  c->position, c->speed, c->length);
+        length += (size_t)sprintf(text + length, "car=%" PRIu64 "\nat=%" PRIu64 "\nspeed=%" PRIu64 "\nlength=%" PRIu64 "\nbrake=%" PRIu64 "\n",
+                                  c->number, c->position, c->speed, c->length, c->rate);
     }
     return length;
 }
 
-static uint32_t load(rondavitse_lane *lane) {
+/* An empty lane on a house row. */
+static inline rondavitse_lane started_lane(uint64_t surface, uint64_t end) {
+    rondavitse_lane lane;
+    rondavitse_empty(&lane);
+    same("start", "no", rondavitse_start(&lane, (rondavitse_road){surface, end, RONDAVITSE_FASTEST}, 0), RONDAVITSE_ACCEPTED);
+    return lane;
+}
+
+/* Two enter an empty lane, whichever is first: safe or not, and then with 25 or 26 for the second. */
+static inline void check_entries(rondavitse_lane lane, rondavitse_carrier ahead, rondavitse_carrier behind, bool safe) {
+    rondavitse_lane from_rear = lane;
+    same("entries", "no of the one ahead, first", rondavitse_enter(&lane, ahead).no, RONDAVITSE_ACCEPTED);
+    same("entries", "no of the one behind", rondavitse_enter(&lane, behind).no, safe ? 0 : RONDAVITSE_UNSAFE_BEHIND_LEADER);
+    same("entries", "no of the one behind, first", rondavitse_enter(&from_rear, behind).no, RONDAVITSE_ACCEPTED);
+    same("entries", "no of the one ahead", rondavitse_enter(&from_rear, ahead).no, safe ? 0 : RONDAVITSE_FOLLOWER_UNSAFE);
+}
+
+static inline uint32_t load(rondavitse_lane *lane) {
     char text[TABLE_BUFFER];
     const size_t length = table_text(text, TABLE_LINES, "");
     return rondavitse_load(lane, (const uint8_t *)text, length);

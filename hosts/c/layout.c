@@ -17,17 +17,19 @@ SIZE(rondavitse_road, 24);
 FIELD(rondavitse_road, surface, 0, 8);
 FIELD(rondavitse_road, end, 8, 8);
 FIELD(rondavitse_road, limit, 16, 8);
-SIZE(rondavitse_carrier, 32);
+SIZE(rondavitse_carrier, 40);
 FIELD(rondavitse_carrier, number, 0, 8);
 FIELD(rondavitse_carrier, position, 8, 8);
 FIELD(rondavitse_carrier, speed, 16, 8);
 FIELD(rondavitse_carrier, length, 24, 8);
+FIELD(rondavitse_carrier, rate, 32, 8);
 SIZE(rondavitse_record, 64);
 FIELD(rondavitse_record, number, 0, 8);
 FIELD(rondavitse_record, position, 8, 8);
 FIELD(rondavitse_record, speed, 16, 8);
 FIELD(rondavitse_record, length, 24, 8);
-FIELD(rondavitse_record, free, 32, 32);
+FIELD(rondavitse_record, rate, 32, 8);
+FIELD(rondavitse_record, free, 40, 24);
 SIZE(rondavitse_lane, 5696);
 FIELD(rondavitse_lane, started, 0, 8);
 FIELD(rondavitse_lane, surface, 8, 8);
@@ -175,8 +177,9 @@ static void check_cycle(void) {
     same_state("cycle", &lane, &wanted);
 }
 
-/* On each surface the first speeds up and the second brakes as hard as they can, and the third, right behind it, may not speed up. */
-static void check_rows_in_force(void) {
+/* On each surface the first speeds up and the second brakes as hard as they can, and the third, right behind it, may not speed up: it brakes
+ * by its own rate, or by b where that is smaller. */
+static void check_rows_in_force(uint64_t rate) {
     const uint8_t sorts[] = {RONDAVITSE_UNITS, RONDAVITSE_UNITS, RONDAVITSE_UNITS};
     const uint32_t values[] = {rondavitse_units(INT16_MAX), rondavitse_units(INT16_MIN), rondavitse_units(INT16_MAX)};
     for (size_t code = 0; code < SURFACES; code++) {
@@ -184,13 +187,15 @@ static void check_rows_in_force(void) {
         lane.surface = code;
         lane.records[2].position = close_behind(&lane, 1);
         lane.records[2].speed = 40;
+        lane.records[2].rate = rate;
         const rondavitse_lane before = lane;
+        const uint64_t b = before.rows[code].guaranteed;
         const rondavitse_cycled got = rondavitse_cycle(&lane, 3, sorts, 3, values, 3);
         same("rows in force", "no", got.no, 0);
         same("rows in force", "word", got.word, 4);
         same("rows in force", "most acceleration", lane.records[0].speed - before.records[0].speed, before.rows[code].most);
         same("rows in force", "hardest braking", before.records[1].speed - lane.records[1].speed, before.rows[code].hardest);
-        same("rows in force", "guaranteed braking", before.records[2].speed - lane.records[2].speed, before.rows[code].guaranteed);
+        same("rows in force", "guaranteed braking", before.records[2].speed - lane.records[2].speed, rate < b ? rate : b);
     }
 }
 
@@ -250,6 +255,7 @@ static void check_longest_text(void) {
         carrier->length = RONDAVITSE_LONGEST_CARRIER;
         carrier->position = lane.end - 1 + carrier->length - 0x00102030 * place;
         carrier->speed = 1000;
+        carrier->rate = RONDAVITSE_HIGHEST_RATE;
     }
     same("longest text", "no", rondavitse_lane_text(&lane, text, sizeof text - 1).no, RONDAVITSE_TEXT_BUFFER_TOO_SHORT);
     same("longest text", "length", rondavitse_lane_text(&lane, text, sizeof text).length, sizeof text);
@@ -320,7 +326,8 @@ int main(void) {
     check_leave();
     check_read();
     check_cycle();
-    check_rows_in_force();
+    check_rows_in_force(8);
+    check_rows_in_force(RONDAVITSE_HIGHEST_RATE);
     check_surface(0);
     check_surface(MOST / 2);
     check_surface(MOST);

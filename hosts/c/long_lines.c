@@ -78,6 +78,7 @@ static void check_blocks(void) {
     check_line(expect_malformed_block, "call=enter\n", "car=7", ' ');
     check_line(expect_malformed_block, "call=enter\ncar=7\n", "at=", '0');
     check_line(expect_malformed_block, "call=enter\ncar=7\nat=0\nspeed=0\n", "length=", '1');
+    check_line(expect_malformed_block, "call=enter\ncar=7\nat=0\nspeed=0\nlength=0\n", "brake=", '1');
     check_line(expect_malformed_block, "call=leave\n", "car=", '1');
     check_line(expect_malformed_block, "call=surface\n", "surface=", '0');
     check_line(expect_malformed_block, "call=cycle\n", "cars=", '1');

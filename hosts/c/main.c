@@ -1,5 +1,5 @@
 /* A worked host: five minutes of a lane with an entry at its start, a side road, an exit and an end that carriers run out at, on surface
- * figures of the terminal's own; for a while it rains. It prints a summary that is the same in every run. */
+ * figures of the terminal's own; some trailers are loaded, and for a while it rains. It prints a summary that is the same in every run. */
 #include "rondavitse.h"
 
 #include <math.h>
@@ -18,7 +18,10 @@ enum {
     LANE_END = 400 * METRE,
     SPEED_LIMIT = 20 * METRE_PER_SECOND,
     SIDE_ROAD = 120 * METRE,
-    LAST_REFUSAL = RONDAVITSE_SURFACE_UNSAFE
+    FULL = 24,              /* own braking rates of trailers: below the b of both surfaces, */
+    HALF_FULL = 40,         /* of the dry one alone, */
+    UNLOADED = 72,          /* and of neither */
+    LAST_REFUSAL = RONDAVITSE_RATE_OUT_OF_RANGE
 };
 
 /* What the terminal has measured of its concrete, a row for each surface code. */
@@ -36,7 +39,7 @@ static const char TABLE[] = "b=58\nB=132\nA=30\n"
 typedef struct {
     rondavitse_lane lane; /* changed by the supervisor alone */
     uint64_t next_number;
-    unsigned admitted, replaced, left, gone;
+    unsigned admitted, replaced, replaced_loaded, left, gone;
     unsigned refused[LAST_REFUSAL + 1]; /* entries, by the refusal's number */
     unsigned changed, postponed;        /* changes of surface accepted, and refused with 34 */
     double closest;                     /* the least distance to the tail ahead, m */
@@ -101,6 +104,18 @@ static uint64_t length_of(uint64_t number) {
     return (number % 3 == 0 ? 8 : 14) * METRE;
 }
 
+/* Two of seven trailers are loaded. */
+static uint64_t rate_of(uint64_t number) {
+    switch (number % 7) {
+    case 0:
+        return FULL;
+    case 1:
+        return HALF_FULL;
+    default:
+        return UNLOADED;
+    }
+}
+
 /* A carrier that is refused waits with its number for the next try. */
 static void try_entry(host *h, uint64_t position, uint64_t speed) {
     const rondavitse_carrier carrier = {
@@ -108,6 +123,7 @@ static void try_entry(host *h, uint64_t position, uint64_t speed) {
         .position = position,
         .speed = speed,
         .length = length_of(h->next_number),
+        .rate = rate_of(h->next_number),
     };
     const rondavitse_entered answer = rondavitse_enter(&h->lane, carrier);
     if (answer.no == RONDAVITSE_ACCEPTED) {
@@ -171,10 +187,28 @@ static wish wish_of(const rondavitse_record *carrier, size_t place, int cycle, b
     }
 }
 
+/* A word with a bit for each place that has a loaded trailer. */
+static uint64_t loaded_places(const host *h) {
+    uint64_t word = 0;
+    for (size_t place = 0; place < h->lane.count; place++) {
+        word |= (uint64_t)(h->lane.records[place].rate < UNLOADED) << place;
+    }
+    return word;
+}
+
+static unsigned ones(uint64_t word) {
+    unsigned count = 0;
+    for (; word != 0; word &= word - 1) {
+        count++;
+    }
+    return count;
+}
+
 static void drive(host *h, int cycle) {
     uint8_t sorts[RONDAVITSE_MOST_CARRIERS];
     uint32_t values[RONDAVITSE_MOST_CARRIERS];
     const size_t count = h->lane.count;
+    const uint64_t loaded = loaded_places(h); /* a cycle's word goes by the places before it */
     const bool slower = awaits_surface(h, cycle);
     for (size_t place = 0; place < count; place++) {
         const wish w = wish_of(&h->lane.records[place], place, cycle, slower);
@@ -184,6 +218,7 @@ static void drive(host *h, int cycle) {
     const rondavitse_cycled answer = rondavitse_cycle(&h->lane, count, sorts, count, values, count);
     expect_accepted("cycle", answer.no);
     h->replaced += answer.replaced;
+    h->replaced_loaded += ones(answer.word & loaded);
     h->gone += answer.gone;
 }
 
@@ -248,7 +283,7 @@ static void print_summary(const host *h) {
     printf("changes of surface: %u\n", h->changed);
     printf("changes of surface refused with %d (%s): %u\n", RONDAVITSE_SURFACE_UNSAFE, rondavitse_words(RONDAVITSE_SURFACE_UNSAFE),
            h->postponed);
-    printf("wishes replaced: %u\n", h->replaced);
+    printf("wishes replaced: %u, of loaded trailers: %u\n", h->replaced, h->replaced_loaded);
     printf("carriers out by the exit: %u\n", h->left);
     printf("carriers gone at the lane end: %u\n", h->gone);
     /* As many digits as 1/2048 and 1/128 have: nothing is rounded. */

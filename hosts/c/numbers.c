@@ -15,7 +15,7 @@ static rondavitse_lane dry_lane(void) {
 
 static rondavitse_lane lane_of_one(void) {
     rondavitse_lane lane = dry_lane();
-    rondavitse_enter(&lane, (rondavitse_carrier){.number = 1, .position = 0, .speed = SPEED, .length = 0});
+    rondavitse_enter(&lane, (rondavitse_carrier){.number = 1, .position = 0, .speed = SPEED, .length = 0, .rate = 1});
     return lane;
 }
 
@@ -45,18 +45,20 @@ static void check_block(rondavitse_lane *lane, const char *block, const char *an
     same(block, "answer", (uint64_t)memcmp(out, answer, strlen(answer)), 0);
 }
 
-/* An entry with this length gives `no`, by the call and by a block. */
-static void check_length(uint64_t length, uint32_t no, const char *answer) {
+/* An entry with this length and own rate gives `no`, by the call and by a block. */
+static void check_entry(uint64_t length, uint64_t rate, uint32_t no, const char *answer) {
     char block[128];
     rondavitse_lane by_call = dry_lane(), by_block = by_call;
-    sprintf(block, "call=enter\ncar=1\nat=0\nspeed=0\nlength=%" PRIu64 "\n", length);
-    same("length", "no", rondavitse_enter(&by_call, (rondavitse_carrier){.number = 1, .length = length}).no, no);
+    sprintf(block, "call=enter\ncar=1\nat=0\nspeed=0\nlength=%" PRIu64 "\nbrake=%" PRIu64 "\n", length, rate);
+    same(block, "no", rondavitse_enter(&by_call, (rondavitse_carrier){.number = 1, .length = length, .rate = rate}).no, no);
     check_block(&by_block, block, answer);
-    same("length", "carriers", by_call.count, no == RONDAVITSE_ACCEPTED);
-    same("length", "carriers by a block", by_block.count, no == RONDAVITSE_ACCEPTED);
+    same(block, "carriers", by_call.count, no == RONDAVITSE_ACCEPTED);
+    same(block, "carriers by a block", by_block.count, no == RONDAVITSE_ACCEPTED);
     if (no == RONDAVITSE_ACCEPTED) {
-        same("length", "in the lane", by_call.records[0].length, length);
-        same("length", "in the lane by a block", by_block.records[0].length, length);
+        same(block, "length in the lane", by_call.records[0].length, length);
+        same(block, "length in the lane by a block", by_block.records[0].length, length);
+        same(block, "rate in the lane", by_call.records[0].rate, rate);
+        same(block, "rate in the lane by a block", by_block.records[0].rate, rate);
     }
 }
 
@@ -75,13 +77,27 @@ static void check_surface(uint64_t surface, uint32_t no, const char *answer) {
 /* A block's line holds 32 bits and is malformed past them; those of a call are 64. */
 static void check_lengths(void) {
     const uint64_t wide = UINT64_C(1) << 32;
-    check_length(0, RONDAVITSE_ACCEPTED, "ok=enter\nplace=0\n");
-    check_length(RONDAVITSE_LONGEST_CARRIER, RONDAVITSE_ACCEPTED, "ok=enter\nplace=0\n");
-    check_length(RONDAVITSE_LONGEST_CARRIER + 1, RONDAVITSE_LENGTH_TOO_LARGE, "no=33\n");
-    check_length(wide - 1, RONDAVITSE_LENGTH_TOO_LARGE, "no=33\n");
-    check_length(wide, RONDAVITSE_LENGTH_TOO_LARGE, "no=8\n");
-    check_length(wide + 100, RONDAVITSE_LENGTH_TOO_LARGE, "no=8\n");
-    check_length(UINT64_MAX, RONDAVITSE_LENGTH_TOO_LARGE, "no=8\n");
+    check_entry(0, 1, RONDAVITSE_ACCEPTED, "ok=enter\nplace=0\n");
+    check_entry(RONDAVITSE_LONGEST_CARRIER, 1, RONDAVITSE_ACCEPTED, "ok=enter\nplace=0\n");
+    check_entry(RONDAVITSE_LONGEST_CARRIER + 1, 1, RONDAVITSE_LENGTH_TOO_LARGE, "no=33\n");
+    check_entry(wide - 1, 1, RONDAVITSE_LENGTH_TOO_LARGE, "no=33\n");
+    check_entry(wide, 1, RONDAVITSE_LENGTH_TOO_LARGE, "no=8\n");
+    check_entry(wide + 100, 1, RONDAVITSE_LENGTH_TOO_LARGE, "no=8\n");
+    check_entry(UINT64_MAX, 1, RONDAVITSE_LENGTH_TOO_LARGE, "no=8\n");
+}
+
+static void check_rates(void) {
+    const uint64_t wide = UINT64_C(1) << 32;
+    const uint64_t past[] = {0, RONDAVITSE_HIGHEST_RATE + 1, 256 + 64, 65536 + 64, wide - 1}, past_line[] = {wide, wide + 64, UINT64_MAX};
+    for (uint64_t rate = 1; rate <= RONDAVITSE_HIGHEST_RATE; rate++) {
+        check_entry(0, rate, RONDAVITSE_ACCEPTED, "ok=enter\nplace=0\n");
+    }
+    for (size_t i = 0; i < sizeof past / sizeof past[0]; i++) {
+        check_entry(0, past[i], RONDAVITSE_RATE_OUT_OF_RANGE, "no=35\n");
+    }
+    for (size_t i = 0; i < sizeof past_line / sizeof past_line[0]; i++) {
+        check_entry(0, past_line[i], RONDAVITSE_RATE_OUT_OF_RANGE, "no=8\n");
+    }
 }
 
 static void check_surfaces(void) {
@@ -125,7 +141,7 @@ static void check_floats(void) {
 
 static void check_words(void) {
     for (uint32_t no = 0; no < 100; no++) {
-        const bool known = no <= 13 || (no >= 21 && no <= 28) || (no >= 31 && no <= 34);
+        const bool known = no <= 13 || (no >= 21 && no <= 28) || (no >= 31 && no <= 35);
         same("words", "known", strcmp(rondavitse_words(no), "unknown refusal") != 0, known);
     }
     same("words", "of the largest number", (uint64_t)strcmp(rondavitse_words(UINT32_MAX), "unknown refusal"), 0);
@@ -134,6 +150,7 @@ static void check_words(void) {
 int main(void) {
     check_all_units();
     check_lengths();
+    check_rates();
     check_surfaces();
     check_table_numbers();
     check_floats();

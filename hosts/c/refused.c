@@ -86,11 +86,11 @@ static void check_21(rondavitse_lane lane) {
     }
     refused_surface(21, SURFACES, lane);
     refused_surface(21, ROAD.surface, lane); /* the lane is unsound with any code */
-    refused_enter(21, (rondavitse_carrier){0, 0, 0, UINT64_MAX}, lane);
+    refused_enter(21, (rondavitse_carrier){0, 0, 0, UINT64_MAX, 0}, lane);
     refused_named(21, 0, lane);
     refused_text(21, lane);
     refused_cycle(21, 3, no_sorts, 1, lane);
-    refused_block(21, "call=enter\ncar=0\nat=0\nspeed=0\nlength=65536\n", lane);
+    refused_block(21, "call=enter\ncar=0\nat=0\nspeed=0\nlength=65536\nbrake=0\n", lane);
     refused_block(21, "call=leave\ncar=0\n", lane);
     refused_block(21, "call=surface\nsurface=8\n", lane);
     refused_block(21, "call=cycle\ncars=1\nwant=accel:7FC00000\n", lane);
@@ -116,11 +116,11 @@ static void check_never_started(void) {
 
 static void check_unsound(void) {
     check_21(unsound_lane());
-    for (size_t i = 0; i < 8; i++) {
+    for (size_t i = 0; i < 9; i++) {
         rondavitse_lane lane = lane_of(2);
         rondavitse_record *rear = &lane.records[1];
-        uint64_t *figures[] = {&lane.surface, &lane.end,       &lane.limit,  &lane.count,
-                               &rear->number, &rear->position, &rear->speed, &rear->length};
+        uint64_t *figures[] = {&lane.surface,   &lane.end,    &lane.limit,   &lane.count, &rear->number,
+                               &rear->position, &rear->speed, &rear->length, &rear->rate};
         *figures[i] += UINT64_C(1) << 32;
         check_21(lane);
     }
@@ -140,6 +140,22 @@ static void check_unsound_tails(void) {
         check_21(lanes[i]);
         same("start", "no", rondavitse_start(&lanes[i], ROAD, CYCLE), 0);
     }
+}
+
+/* Own rates out of range, of the foremost too, which is behind nobody; then one that is in range and too low for the gap, where b is not. */
+static void check_unsound_rates(void) {
+    const uint64_t past[] = {0, RONDAVITSE_HIGHEST_RATE + 1, UINT64_MAX};
+    rondavitse_lane near = lane_near();
+    for (size_t i = 0; i < sizeof past / sizeof past[0]; i++) {
+        for (size_t place = 0; place < 2; place++) {
+            rondavitse_lane lane = lane_of(2);
+            lane.records[place].rate = past[i];
+            check_21(lane);
+            same("start", "no", rondavitse_start(&lane, ROAD, CYCLE), 0);
+        }
+    }
+    near.records[1].rate = 1;
+    check_21(near);
 }
 
 /* Each way for a row to be unsound, at every code of both sets. A start looks at the next rows alone, before its arguments. */
@@ -215,24 +231,27 @@ static void check_refused_surfaces(void) {
     }
 }
 
-/* 33 comes after 6 and before 22 and 23; 5 looks at the front, 25 and 26 at tails. */
+/* 33 comes after 6, then 35, both before 22 and 23; 5 looks at the front, 25 and 26 at tails. */
 static void check_refused_entries(void) {
     const uint64_t wide = UINT64_C(1) << 32, longest = RONDAVITSE_LONGEST_CARRIER;
     const rondavitse_lane lane = lane_of(2);
     const rondavitse_carrier rear = carrier_at(1);
     const uint64_t number = carrier_at(7).number;
-    refused_enter(4, (rondavitse_carrier){0, 0, 0, 0}, lane);
-    refused_enter(4, (rondavitse_carrier){RONDAVITSE_HIGHEST_NUMBER + 1, wide, wide, wide}, lane);
-    refused_enter(5, (rondavitse_carrier){number, wide, wide, wide}, lane);
-    refused_enter(5, (rondavitse_carrier){number, ROAD.end, 0, longest}, lane);
-    refused_enter(6, (rondavitse_carrier){number, 0, wide, wide}, lane);
-    refused_enter(33, (rondavitse_carrier){number, 0, 0, longest + 1}, lane);
-    refused_enter(33, (rondavitse_carrier){number, 0, 0, wide}, lane);
-    refused_enter(33, (rondavitse_carrier){rear.number, rear.position, 0, UINT64_MAX}, lane_of(MOST));
+    refused_enter(4, (rondavitse_carrier){0, 0, 0, 0, 1}, lane);
+    refused_enter(4, (rondavitse_carrier){RONDAVITSE_HIGHEST_NUMBER + 1, wide, wide, wide, 0}, lane);
+    refused_enter(5, (rondavitse_carrier){number, wide, wide, wide, 0}, lane);
+    refused_enter(5, (rondavitse_carrier){number, ROAD.end, 0, longest, 1}, lane);
+    refused_enter(6, (rondavitse_carrier){number, 0, wide, wide, 0}, lane);
+    refused_enter(33, (rondavitse_carrier){number, 0, 0, longest + 1, 1}, lane);
+    refused_enter(33, (rondavitse_carrier){number, 0, 0, wide, 0}, lane);
+    refused_enter(33, (rondavitse_carrier){rear.number, rear.position, 0, UINT64_MAX, wide}, lane_of(MOST));
+    refused_enter(35, (rondavitse_carrier){number, 0, 0, longest, 0}, lane);
+    refused_enter(35, (rondavitse_carrier){rear.number, rear.position, 0, 0, 256}, lane);
+    refused_enter(35, (rondavitse_carrier){rear.number, rear.position, 0, 0, wide + 1}, lane_of(MOST));
     refused_enter(22, rear, lane_of(MOST));
     refused_enter(23, rear, lane);
-    refused_enter(25, (rondavitse_carrier){number, close_behind(&lane, 1) + 1, 0, 0}, lane);
-    refused_enter(26, (rondavitse_carrier){number, rear.position + longest, ROAD.limit, longest}, lane);
+    refused_enter(25, (rondavitse_carrier){number, close_behind(&lane, 1) + 1, 0, 0, 255}, lane);
+    refused_enter(26, (rondavitse_carrier){number, rear.position + longest, ROAD.limit, longest, 255}, lane);
 }
 
 static void check_refused_arguments(void) {
@@ -264,6 +283,7 @@ int main(void) {
     check_never_started();
     check_unsound();
     check_unsound_tails();
+    check_unsound_rates();
     check_unsound_rows();
     check_refused_lines();
     check_refused_loads();

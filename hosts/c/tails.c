@@ -101,18 +101,11 @@ static void check_cycle(uint32_t units, uint32_t gone) {
     same_state("cycle over the end by a block", &by_block, &wanted);
 }
 
-static rondavitse_lane started_lane(uint64_t end) {
-    rondavitse_lane lane;
-    rondavitse_empty(&lane);
-    same("start", "no", rondavitse_start(&lane, (rondavitse_road){0, end, RONDAVITSE_FASTEST}, 0), RONDAVITSE_ACCEPTED);
-    return lane;
-}
-
 /* Behind a tail at the start or before it nobody can be. */
 static void check_tail_before_start(void) {
     for (uint64_t position = 0; position <= RONDAVITSE_LONGEST_CARRIER + 1; position += position < 2 ? 1 : 0x7FFF) {
-        rondavitse_lane lane = started_lane(RONDAVITSE_FARTHEST_END);
-        const rondavitse_carrier ahead = {1, position, 0, RONDAVITSE_LONGEST_CARRIER}, behind = {2, 0, 0, 0};
+        rondavitse_lane lane = started_lane(0, RONDAVITSE_FARTHEST_END);
+        const rondavitse_carrier ahead = {1, position, 0, RONDAVITSE_LONGEST_CARRIER, 255}, behind = {2, 0, 0, 0, 255};
         const bool free = position > RONDAVITSE_LONGEST_CARRIER;
         same("tail before the start", "no", rondavitse_enter(&lane, ahead).no, RONDAVITSE_ACCEPTED);
         same("tail before the start", "read", rondavitse_read(&lane, 1).no, RONDAVITSE_ACCEPTED);
@@ -126,8 +119,8 @@ static void check_tail_before_start(void) {
 static void check_longer_than_lane(void) {
     const uint8_t hold = RONDAVITSE_HOLD;
     const uint32_t any = 0;
-    rondavitse_lane lane = started_lane(1);
-    const rondavitse_carrier carrier = {1, 0, RONDAVITSE_FASTEST, RONDAVITSE_LONGEST_CARRIER};
+    rondavitse_lane lane = started_lane(0, 1);
+    const rondavitse_carrier carrier = {1, 0, RONDAVITSE_FASTEST, RONDAVITSE_LONGEST_CARRIER, 255};
     same("longer than its lane", "no", rondavitse_enter(&lane, carrier).no, RONDAVITSE_ACCEPTED);
     for (uint64_t cycle = 1; cycle <= 4; cycle++) {
         const rondavitse_cycled got = rondavitse_cycle(&lane, 1, &hold, 1, &any, 1);
@@ -139,12 +132,8 @@ static void check_longer_than_lane(void) {
 /* One that would rest 64 units on, behind one at rest, whichever enters first: level with the tail is refused, one unit less is not. */
 static void check_rest(uint64_t length) {
     for (uint64_t tail = 764; tail <= 765; tail++) {
-        const rondavitse_carrier ahead = {7, tail + length, 0, length}, behind = {8, 700, 64, 9};
-        rondavitse_lane from_front = started_lane(100000), from_rear = from_front;
-        same("rest", "no of the one ahead, first", rondavitse_enter(&from_front, ahead).no, RONDAVITSE_ACCEPTED);
-        same("rest", "no of the one behind", rondavitse_enter(&from_front, behind).no, tail == 764 ? RONDAVITSE_UNSAFE_BEHIND_LEADER : 0);
-        same("rest", "no of the one behind, first", rondavitse_enter(&from_rear, behind).no, RONDAVITSE_ACCEPTED);
-        same("rest", "no of the one ahead", rondavitse_enter(&from_rear, ahead).no, tail == 764 ? RONDAVITSE_FOLLOWER_UNSAFE : 0);
+        const rondavitse_carrier ahead = {7, tail + length, 0, length, 255}, behind = {8, 700, 64, 9, 255};
+        check_entries(started_lane(0, 100000), ahead, behind, tail == 765);
     }
 }
 
@@ -153,8 +142,8 @@ static void check_wish(uint64_t length) {
     const uint8_t sorts[] = {RONDAVITSE_HOLD, RONDAVITSE_UNITS};
     const uint32_t values[] = {0, 32};
     for (uint64_t tail = 1020; tail <= 1021; tail++) {
-        rondavitse_lane lane = started_lane(100000);
-        const rondavitse_carrier ahead = {7, tail + length, 0, length}, behind = {8, 700, 64, 9};
+        rondavitse_lane lane = started_lane(0, 100000);
+        const rondavitse_carrier ahead = {7, tail + length, 0, length, 255}, behind = {8, 700, 64, 9, 255};
         same("wish", "no of the one ahead", rondavitse_enter(&lane, ahead).no, RONDAVITSE_ACCEPTED);
         same("wish", "no of the one behind", rondavitse_enter(&lane, behind).no, RONDAVITSE_ACCEPTED);
         same("wish", "word", rondavitse_cycle(&lane, 2, sorts, 2, values, 2).word, tail == 1020 ? 2 : 0);
@@ -168,8 +157,8 @@ static void check_rain(uint64_t length) {
     const uint64_t stops[SURFACES] = {64, 80, 96, 112, 128, 256, 684, 4096}; /* from a speed of 64 */
     for (uint64_t code = 1; code < SURFACES; code++) {
         for (uint64_t room = stops[code]; room <= stops[code] + 1; room++) {
-            rondavitse_lane lane = started_lane(100000);
-            const rondavitse_carrier ahead = {7, 700 + room + length, 0, length}, behind = {8, 700, 64, 9};
+            rondavitse_lane lane = started_lane(0, 100000);
+            const rondavitse_carrier ahead = {7, 700 + room + length, 0, length, 255}, behind = {8, 700, 64, 9, 255};
             same("rain", "no of the one ahead", rondavitse_enter(&lane, ahead).no, RONDAVITSE_ACCEPTED);
             same("rain", "no of the one behind", rondavitse_enter(&lane, behind).no, RONDAVITSE_ACCEPTED);
             same("rain", "no", rondavitse_surface(&lane, code), room == stops[code] ? RONDAVITSE_SURFACE_UNSAFE : 0);
