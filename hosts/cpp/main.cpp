@@ -67,6 +67,14 @@ class Lane {
     rondavitse_lane words;
 };
 
+static void try_entry(Lane &lane, const rondavitse_carrier &carrier) {
+    try {
+        std::printf("carrier %" PRIu64 " enters at place %zu\n", carrier.number, lane.enter(carrier));
+    } catch (const Refused &refusal) {
+        std::printf("carrier %" PRIu64 " refused by %" PRIu32 ": %s\n", carrier.number, refusal.no, refusal.what());
+    }
+}
+
 static void try_surface(Lane &lane, uint64_t surface) {
     try {
         lane.change_surface(surface);
@@ -82,15 +90,12 @@ int main() {
         table += "b=20\nB=80\nA=10\n";
     }
     Lane lane(table, {0, 10000, 1000}, 0);
-    // The third is behind the second's front and not behind its tail; the fourth's length would be 100 if it were cut.
-    for (const rondavitse_carrier carrier :
-         {rondavitse_carrier{7, 1000, 0, 200}, {8, 700, 64, 100}, {9, 650, 0, 100}, {10, 500, 0, UINT64_C(4294967396)}}) {
-        try {
-            std::printf("carrier %" PRIu64 " enters at place %zu\n", carrier.number, lane.enter(carrier));
-        } catch (const Refused &refusal) {
-            std::printf("carrier %" PRIu64 " refused by %" PRIu32 ": %s\n", carrier.number, refusal.no, refusal.what());
-        }
-    }
+    try_entry(lane, {7, 1000, 0, 200, 90});
+    try_entry(lane, {8, 700, 64, 100, 40}); // loaded: its own rate, below the surface's b, would not stop it before the first's tail
+    try_entry(lane, {8, 700, 64, 100, 48});
+    try_entry(lane, {9, 650, 0, 100, 90}); // behind the second's front and not behind its tail
+    try_entry(lane, {10, 500, 0, UINT64_C(4294967396), 90}); // a length of 100 if it were cut
+    try_entry(lane, {11, 500, 0, 100, UINT64_C(4294967360)}); // an own rate of 64 if it were cut
     try_surface(lane, 1); // the second would not stop before the first's tail
     for (const int64_t units : {INT64_C(4294967328), INT64_C(32)}) { // the first would be 32 if it were cut
         try {

@@ -6,7 +6,7 @@ import ctypes
 import sys
 from ctypes import byref, c_char_p, c_double, c_size_t, c_uint8, c_uint32, c_uint64
 
-VERSION, SURFACES, WORDS_OF_A_LANE = 5, 8, 712  # of the interface that the structs below are of
+VERSION, SURFACES, WORDS_OF_A_LANE = 6, 8, 712  # of the interface that the structs below are of
 UNITS, HOLD = 0, 3
 
 
@@ -16,7 +16,7 @@ def struct(**fields):
 
 Lane = c_uint64 * WORDS_OF_A_LANE
 Road = struct(surface=c_uint64, end=c_uint64, limit=c_uint64)
-Carrier = struct(number=c_uint64, position=c_uint64, speed=c_uint64, length=c_uint64)
+Carrier = struct(number=c_uint64, position=c_uint64, speed=c_uint64, length=c_uint64, rate=c_uint64)
 Entered = struct(no=c_uint32, place=c_size_t)
 Cycled = struct(no=c_uint32, word=c_uint64, replaced=c_uint32, gone=c_uint32)
 ReadOut = struct(no=c_uint32, position=c_double, speed=c_double)
@@ -67,8 +67,8 @@ class Supervisor:
     def change_surface(self, surface):
         self.check(self.called("surface", c_uint32, byref(self.lane), wide(surface)))
 
-    def enter(self, number, position, speed, length):
-        return self.answer("enter", Entered, Carrier(*map(wide, (number, position, speed, length)))).place
+    def enter(self, number, position, speed, length, rate):
+        return self.answer("enter", Entered, Carrier(*map(wide, (number, position, speed, length, rate)))).place
 
     def cycle(self, wishes):
         count = c_size_t(len(wishes))
@@ -77,6 +77,13 @@ class Supervisor:
 
     def read(self, number):
         return self.answer("read", ReadOut, wide(number))
+
+
+def try_entry(lane, number, *figures):
+    try:
+        print(f"carrier {number} enters at place {lane.enter(number, *figures)}")
+    except Refused as refusal:
+        print("carrier {} refused by {}: {}".format(number, *refusal.args))
 
 
 def try_surface(lane, surface):
@@ -91,12 +98,12 @@ def main(path):
     dry, wet = b"b=60\nB=120\nA=30\n", b"b=20\nB=80\nA=10\n"
     table = dry + wet * (SURFACES - 1)  # of a terminal on which all surfaces but the dry one are alike
     lane = Supervisor(path, table, (0, 10000, 1000), 0)
-    # The third is behind the second's front and not behind its tail; the fourth's length would be 100 if it were cut.
-    for carrier in ((7, 1000, 0, 200), (8, 700, 64, 100), (9, 650, 0, 100), (10, 500, 0, 4294967396)):
-        try:
-            print(f"carrier {carrier[0]} enters at place {lane.enter(*carrier)}")
-        except Refused as refusal:
-            print("carrier {} refused by {}: {}".format(carrier[0], *refusal.args))
+    try_entry(lane, 7, 1000, 0, 200, 90)
+    try_entry(lane, 8, 700, 64, 100, 40)  # loaded: its own rate, below the surface's b, would not stop it before the first's tail
+    try_entry(lane, 8, 700, 64, 100, 48)
+    try_entry(lane, 9, 650, 0, 100, 90)  # behind the second's front and not behind its tail
+    try_entry(lane, 10, 500, 0, 4294967396, 90)  # a length of 100 if it were cut
+    try_entry(lane, 11, 500, 0, 100, 4294967360)  # an own rate of 64 if it were cut
     try_surface(lane, 1)  # the second would not stop before the first's tail
     for number in (4294967328, 32):  # the first would be 32 if it were cut
         try:

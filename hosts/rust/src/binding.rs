@@ -1,10 +1,10 @@
 //! The functions and structs of `rondavitse.h`.
 
 /// The interface that this file is for.
-pub const VERSION: u32 = 5;
+pub const VERSION: u32 = 6;
 pub const SURFACES: usize = 8;
 pub const MOST_CARRIERS: usize = 64;
-pub const LONGEST_TEXT: usize = 3_080;
+pub const LONGEST_TEXT: usize = 3_720;
 pub const ANSWER_BUFFER: usize = 4_096;
 
 #[repr(C)]
@@ -24,6 +24,9 @@ pub struct Carrier {
     pub speed: u64,
     /// From front to tail, in position units.
     pub length: u64,
+    /// Its own braking rate in 1/16 m/s², 1 to 255: its guaranteed braking is
+    /// the smaller of it and the row's.
+    pub rate: u64,
 }
 
 /// What a surface code stands for, in 1/16 m/s²: guaranteed braking, hardest
@@ -43,7 +46,7 @@ pub struct Row {
 #[derive(Clone, Copy, Debug, Default, PartialEq, Eq)]
 pub struct Record {
     pub carrier: Carrier,
-    pub free: [u64; 4],
+    pub free: [u64; 3],
 }
 
 /// The first `count` records are the carriers, front to back.

@@ -1,7 +1,8 @@
 //! A worked host: five minutes of a lane with an entry at its start, a side
 //! road, an exit and an end that carriers run out at, on surface figures of the
-//! terminal's own; for a while it rains. It prints a summary that is the same
-//! in every run, and the same as that of the host in C.
+//! terminal's own; some trailers are loaded, and for a while it rains. It prints
+//! a summary that is the same in every run, and the same as that of the host in
+//! C.
 
 use rondavitse::{Carrier, Lane, Refusal, Road, Wish};
 use std::collections::BTreeMap;
@@ -30,6 +31,11 @@ b=30\nB=92\nA=16\n\
 b=15\nB=70\nA=12\n\
 b=5\nB=50\nA=8\n\
 b=1\nB=255\nA=1\n";
+/// Own braking rates of trailers: below the b of both surfaces, of the dry one
+/// alone, and of neither.
+const FULL: u64 = 24;
+const HALF_FULL: u64 = 40;
+const UNLOADED: u64 = 72;
 const SIDE_ROAD: u64 = 120 * METRE;
 /// In metres.
 const EXIT_POSITION: f64 = 300.0;
@@ -44,6 +50,7 @@ struct Host {
     changed: u32,
     postponed: u32,
     replaced: u32,
+    replaced_loaded: u32,
     left: u32,
     gone: u32,
     /// The least distance to the tail ahead, in metres.
@@ -69,6 +76,7 @@ impl Host {
             changed: 0,
             postponed: 0,
             replaced: 0,
+            replaced_loaded: 0,
             left: 0,
             gone: 0,
             closest: f64::INFINITY,
@@ -115,6 +123,7 @@ impl Host {
             position,
             speed,
             length: length_of(self.next_number),
+            rate: rate_of(self.next_number),
         };
         match self.lane.enter(newcomer) {
             Ok(_) => {
@@ -125,7 +134,16 @@ impl Host {
         }
     }
 
+    /// A word with a bit for each place that has a loaded trailer.
+    fn loaded_places(&self) -> u64 {
+        let carriers = self.lane.carriers().enumerate();
+        carriers.fold(0, |word, (place, carrier)| {
+            word | u64::from(carrier.rate < UNLOADED) << place
+        })
+    }
+
     fn drive(&mut self, cycle: u32) -> Result<(), Refusal> {
+        let loaded = self.loaded_places(); // a cycle's word goes by the places before it
         let slower = self.awaits_surface(cycle);
         let carriers = self.lane.carriers().enumerate();
         let wishes: Vec<Wish> = carriers
@@ -133,6 +151,7 @@ impl Host {
             .collect();
         let cycled = self.lane.cycle(&wishes)?;
         self.replaced += cycled.replaced;
+        self.replaced_loaded += (cycled.word & loaded).count_ones();
         self.gone += cycled.gone;
         Ok(())
     }
@@ -178,7 +197,10 @@ impl Host {
         println!("changes of surface: {}", self.changed);
         let (refusal, times) = (Refusal::SurfaceUnsafe, self.postponed);
         println!("changes of surface refused with {refusal}: {times}");
-        println!("wishes replaced: {}", self.replaced);
+        println!(
+            "wishes replaced: {}, of loaded trailers: {}",
+            self.replaced, self.replaced_loaded
+        );
         println!("carriers out by the exit: {}", self.left);
         println!("carriers gone at the lane end: {}", self.gone);
         // As many digits as 1/2048 and 1/128 have: nothing is rounded.
@@ -205,6 +227,15 @@ fn surface_wanted(cycle: u32) -> u64 {
 /// Every third carrier takes a container of 20 feet, the others take one of 40.
 fn length_of(number: u64) -> u64 {
     METRE * if number.is_multiple_of(3) { 8 } else { 14 }
+}
+
+/// Two of seven trailers are loaded.
+fn rate_of(number: u64) -> u64 {
+    match number % 7 {
+        0 => FULL,
+        1 => HALF_FULL,
+        _ => UNLOADED,
+    }
 }
 
 /// By the carrier's number; but now and then the foremost brakes for six seconds,

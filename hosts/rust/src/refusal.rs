@@ -32,12 +32,13 @@ pub enum Refusal {
     LaneOccupied = 32,
     LengthTooLarge = 33,
     SurfaceUnsafe = 34,
+    RateOutOfRange = 35,
 }
 
 use Refusal::*;
 
 /// Every refusal and what it says.
-const WORDS: [(Refusal, &str); 25] = [
+const WORDS: [(Refusal, &str); 26] = [
     (SurfaceUnknown, "surface above 7"),
     (EndOutOfRange, "lane end outside 1 to 2^31"),
     (LimitOutOfRange, "limit outside 1 to 8,192"),
@@ -72,6 +73,7 @@ const WORDS: [(Refusal, &str); 25] = [
     (LaneOccupied, "carriers are on the lane"),
     (LengthTooLarge, "length above 65,535"),
     (SurfaceUnsafe, "the lane would not be safe on that surface"),
+    (RateOutOfRange, "own rate outside 1 to 255"),
 ];
 
 impl Refusal {
