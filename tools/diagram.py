@@ -3,6 +3,7 @@
 WIDTH, HEIGHT = 960, 560
 LEFT, RIGHT, TOP, BOTTOM = 64, 24, 56, 48
 METRE, SECOND = 2048, 8  # a position counts 1/2048 m, a cycle is 1/8 s
+HIGHEST_RATE = 255  # of a carrier; no surface guarantees more
 COLOURS = ("#1b6ca8", "#2e8b57", "#8e5ea2", "#b8860b", "#4a7c86", "#7a5c3e", "#5f6caf", "#a23b72")
 STYLE = """
 text { font: 12px sans-serif; fill: #333 }
@@ -154,8 +155,10 @@ def replaced_parts(track):
 
 
 def number(scale, track, colour):
+    """A carrier's number, and its own rate where a surface may guarantee more."""
     time, position = track.points[0]
-    return f'<text class="number" style="fill: {colour}" x="{scale.x(time) + 8:.1f}" y="{scale.y(position) + 15:.1f}">{track.number}</text>'
+    words = f"{track.number} brake={track.rate}" if track.rate < HIGHEST_RATE else track.number
+    return f'<text class="number" style="fill: {colour}" x="{scale.x(time) + 8:.1f}" y="{scale.y(position) + 15:.1f}">{words}</text>'
 
 
 def entry_mark(x, y, colour):

@@ -4,7 +4,7 @@ import subprocess
 from dataclasses import dataclass, field
 
 LONGEST_INPUT = 65536
-LINES = {b"start": 5, b"enter": 5, b"leave": 2, b"surface": 2, b"show": 1}  # of a block; those of a cycle are two and its wishes
+LINES = {b"start": 5, b"enter": 6, b"leave": 2, b"surface": 2, b"show": 1}  # of a block; those of a cycle are two and its wishes
 
 
 class Unfit(Exception):
@@ -19,6 +19,7 @@ class Track:
     points: list
     speed: int
     length: int
+    rate: int  # its own braking rate
     replaced: list = field(default_factory=list)  # the times of cycles in which the wish was replaced
     end: str = "on the lane"  # or "left", "gone"
 
@@ -78,9 +79,9 @@ def fields(block):
 
 
 def carriers(shown):
-    """Number, position, speed and length of each carrier, front to back."""
+    """Number, position, speed, length and own rate of each carrier, front to back."""
     figures = [int(line.split("=")[1]) for line in shown.splitlines()[2:]]
-    return list(zip(figures[::4], figures[1::4], figures[2::4], figures[3::4]))
+    return list(zip(*(figures[index::5] for index in range(5))))
 
 
 class Teller:
@@ -119,8 +120,8 @@ class Teller:
         self.story.lane_end = max(self.story.lane_end, lane_end)
 
     def entered(self, place, lane):
-        number, position, speed, length = lane[place]
-        track = Track(number, [(self.story.time, position)], speed, length)
+        number, position, speed, length, rate = lane[place]
+        track = Track(number, [(self.story.time, position)], speed, length, rate)
         self.present.insert(place, track)
         self.story.tracks.append(track)
 
@@ -133,7 +134,7 @@ class Teller:
     def driven(self, word, lane):
         before = self.story.time
         self.story.time += 1
-        after = {number: (position, speed) for number, position, speed, _ in lane}
+        after = {number: (position, speed) for number, position, speed, *_ in lane}
         for place, track in enumerate(self.present):
             if word >> place & 1:
                 track.replaced.append(before)
