@@ -49,6 +49,16 @@ static uint64_t stop(uint64_t rate, uint64_t speed) {
     return gained;
 }
 
+/* Document 01's figures: the bounds below are reckoned with these stops. */
+static void check_stops(void) {
+    same("stop", "from 7 at 3", stop(3, 7), 17);
+    same("stop", "from 7 at 5", stop(5, 7), 11);
+    same("stop", "from 100 at 255", stop(255, 100), 100);
+    same("stop", "from 8192 at 1", stop(1, 8192), 67108864);
+    same("stop", "from 96 at 64", stop(64, 96), 160);
+    same("stop", "from 0 at 6", stop(6, 0), 0);
+}
+
 /* The room with which one that gains so much until rest is level with the tail ahead, then or now. */
 static uint64_t level(uint64_t gained, uint64_t gained_ahead) {
     return gained > gained_ahead ? gained - gained_ahead : 0;
@@ -60,7 +70,7 @@ static uint64_t unsafe_room(const pair *p, uint64_t surface) {
     return level(stop(lower(p->rate, row.guaranteed), p->speed), stop(row.hardest, p->speed_ahead));
 }
 
-/* A change to the surface from each other one; on one where the lane is unsafe it is not looked at. */
+/* A change to the surface from each one, on some of which the lane is unsafe already. */
 static void check_changes(const pair *p, uint64_t room, uint64_t surface) {
     const bool safe = room > unsafe_room(p, surface);
     for (uint64_t from = 0; from < SURFACES; from++) {
@@ -131,6 +141,7 @@ static void check_rate(uint64_t rate, uint64_t surface) {
 }
 
 int main(void) {
+    check_stops();
     for (uint64_t surface = 0; surface < SURFACES; surface++) {
         const rondavitse_row row = row_of(surface);
         const uint64_t b = row.guaranteed, rates[] = {1, b > 1 ? b - 1 : 1, b, b + 1, row.hardest, RONDAVITSE_HIGHEST_RATE};
