@@ -104,3 +104,10 @@ entry-answers s c place e own room new within before at = (
     by-gap : callNo (enter-call c) s ≡ gapNo r place c cs
     by-gap =
         rw (e, newcomer-passes (s .road) c own, ne-eqb (s .count) 64 (λ f. omega arith), absent (c .number) cs new, walk-ends (c .position) cs place within before at) refl
+
+-- so that on a lane with nobody on it every such one is let in
+pub alone-enters : (s : State) (c : Carrier) → broken s ≡ false → s .count ≡ 0 → s .carriers ≡ [] → Newcomer (s .road) c → callNo (enter-call c) s ≡ 0
+alone-enters s c b e f h =
+    let nobody : length (s .carriers) ≡ 0 = rw f refl in
+    entry-answers s c 0 b h (omega arith) (λ i p. absurd (omega arith)) (omega arith) (λ i p. absurd (omega arith)) (λ p. absurd (omega arith)) .0
+    (λ p. absurd (omega arith)) (λ p. absurd (omega arith))

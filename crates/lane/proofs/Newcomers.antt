@@ -2,16 +2,12 @@
 -- tail before the start is let in.
 use mathlib.Core.Path.{_≡_, refl}
 use mathlib.Core.Bool.{false, _||_, cond}
-use mathlib.Core.List.{[]}
 use Prim.Native.Nat.{ℕ, _≤_, _<_}
 use borrow.Author.Tests.{le-ltb, lt-leb, ltb-false, leb-false}
 use lib.Dec.{leb, ltb}
 use Rattle.lane.specs.declared.Carrier.{Carrier}
 use Rattle.lane.specs.declared.Road.{Road}
-use Rattle.lane.specs.State.{State}
-use Rattle.lane.specs.Safety.{safeWith, anyOf, firstPlace}
-use Rattle.lane.specs.Rules.{outsideOf, badNumber, tooFast, tooLong, badRate, newcomerNo, broken}
-use Rattle.lane.specs.Calls.{walk, gapNo, placeNo, enterNo}
+use Rattle.lane.specs.Rules.{outsideOf, badNumber, tooFast, tooLong, badRate, newcomerNo}
 use Rattle.lane.proofs.lists.Passed.{passed}
 use Rattle.lane.proofs.lists.Tests.{neither}
 
@@ -70,8 +66,3 @@ pub own-values-in-order : (road : Road) (c : Carrier) → 1 ≤ c .number → c 
     → newcomerNo road c ≡ cond (ltb (road .limit) (c .speed)) 6 (cond (ltb 65535 (c .length)) 33 (cond (ltb (c .rate) 1 || ltb 255 (c .rate)) 35 0))
 unfolding newcomerNo
 own-values-in-order road c p q h = rw (le-ltb (c .number) 1 p, le-ltb 65535 (c .number) q, lt-leb (road .end) (c .position) h) refl
-
--- on a lane with nobody on it every such one is let in
-pub alone-enters : (s : State) (c : Carrier) → broken s ≡ false → s .count ≡ 0 → s .carriers ≡ [] → Newcomer (s .road) c → enterNo s c ≡ 0
-unfolding enterNo placeNo gapNo walk firstPlace anyOf safeWith
-alone-enters s c b e f h = rw (b, newcomer-passes (s .road) c h, e, f) refl
