@@ -1,7 +1,13 @@
 //! A carrier and its motion over one cycle.
 
+use crate::surface::Row;
+use std::ops::RangeInclusive;
+
 /// The greatest length that a carrier may have.
 pub const LONGEST_CARRIER: u64 = 65_535;
+
+/// The own rates that carriers may have.
+pub const OWN_RATES: RangeInclusive<u64> = 1..=255;
 
 /// A carrier reaches from its front, which its position is, back to its tail.
 #[derive(Clone, Copy, Debug, Default, PartialEq, Eq)]
@@ -13,6 +19,8 @@ pub struct Carrier {
     pub speed: u64,
     /// In 1/2048 m.
     pub length: u64,
+    /// The carrier's own rate of braking, in 1/16 m/s².
+    pub rate: u64,
 }
 
 impl Carrier {
@@ -41,6 +49,12 @@ impl Carrier {
             speed,
             ..self
         }
+    }
+
+    /// The braking that this carrier can be relied on to reach on a surface: one
+    /// that is loaded may do worse than the row's b, and none counts as better.
+    pub fn guaranteed_braking(self, row: &Row) -> u64 {
+        self.rate.min(row.guaranteed_braking)
     }
 
     /// The acceleration of one cycle of braking at `rate`: −(smaller of rate and speed).

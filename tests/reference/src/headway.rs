@@ -5,18 +5,19 @@ use crate::carrier::Carrier;
 use crate::stopping::Stopping;
 use crate::surface::Row;
 
-/// Where the front of a carrier that brakes at `rate` from now on comes to
-/// rest. The rate is of a sound row and the speed within a limit, so 32 bits
-/// hold them.
-pub fn front_at_rest<S: Stopping>(carrier: Carrier, rate: u64) -> i64 {
-    carrier.front() + stop::<S>(carrier, rate)
+/// Where the front of a carrier that brakes only as guaranteed from now on comes
+/// to rest.
+pub fn front_at_rest<S: Stopping>(row: &Row, carrier: Carrier) -> i64 {
+    carrier.front() + stop::<S>(carrier, carrier.guaranteed_braking(row))
 }
 
-/// Where its tail does.
-pub fn tail_at_rest<S: Stopping>(carrier: Carrier, rate: u64) -> i64 {
-    carrier.tail() + stop::<S>(carrier, rate)
+/// Where the tail of one that brakes its hardest does, whatever its own rate is.
+pub fn tail_at_rest<S: Stopping>(row: &Row, carrier: Carrier) -> i64 {
+    carrier.tail() + stop::<S>(carrier, row.hardest_braking)
 }
 
+/// The rate is of a sound row or a carrier's own and the speed within a limit, so
+/// 32 bits hold them.
 fn stop<S: Stopping>(carrier: Carrier, rate: u64) -> i64 {
     debug_assert!(carrier.speed.max(rate) <= u32::MAX.into());
     S::distance(rate as u32, carrier.speed as u32) as i64
@@ -41,6 +42,5 @@ pub fn rests_behind<S: Stopping>(
 }
 
 fn rests_short<S: Stopping>(row: &Row, follower: Carrier, leader: Carrier) -> bool {
-    front_at_rest::<S>(follower, row.guaranteed_braking)
-        < tail_at_rest::<S>(leader, row.hardest_braking)
+    front_at_rest::<S>(row, follower) < tail_at_rest::<S>(row, leader)
 }

@@ -9,6 +9,7 @@ mod histories;
 mod lanes;
 mod lengths;
 mod programs;
+mod rates;
 mod surfaces;
 mod table_texts;
 mod tables;

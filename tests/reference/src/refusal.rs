@@ -34,6 +34,7 @@ pub enum Refusal {
     LengthTooLarge = 33,
     /// Of a change of surface: the lane would not be safe on the new one.
     SurfaceUnsafe = 34,
+    OwnRateOutOfRange = 35,
 }
 
 impl Refusal {

@@ -78,7 +78,7 @@ impl RoadBook {
         let drives = told.map(|(place, (&carrier, wished))| Drive {
             carrier,
             acceleration: if word >> place & 1 == 1 {
-                carrier.braking(row.guaranteed_braking)
+                carrier.braking(carrier.guaranteed_braking(&row))
             } else {
                 wished
             },

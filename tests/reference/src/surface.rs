@@ -11,7 +11,8 @@ pub const RATES: RangeInclusive<u64> = 1..=255;
 /// What a surface allows, in units of 1/16 m/s² per cycle; any words at first.
 #[derive(Clone, Copy, Debug, Default, PartialEq, Eq)]
 pub struct Row {
-    /// b: the braking every carrier can be relied on to reach.
+    /// b: the braking every carrier can be relied on to reach whose own rate is no
+    /// smaller.
     pub guaranteed_braking: u64,
     /// B: the hardest braking any carrier may show.
     pub hardest_braking: u64,

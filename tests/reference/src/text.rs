@@ -94,6 +94,7 @@ impl<'a> Lines<'a> {
             position: self.number::<u32>("at")?,
             speed: self.number::<u32>("speed")?,
             length: self.number::<u32>("length")?,
+            rate: self.number::<u32>("brake")?,
         })
     }
 

@@ -2,13 +2,13 @@
 
 mod common;
 
-use common::{carrier, example_lane, lane_of, long_carrier, wishes};
+use common::{carrier, example_lane, lane_of, let_in, long_carrier, wishes};
 use lane_reference::random::{
     call, history, sound_lane, unsound_lane, widened, History, Random, CYCLES, EVEN, LOADS, RAIN,
 };
 use lane_reference::road_book::{check_history, Checker, Drive};
 use lane_reference::stopping::{Fast, Summed};
-use lane_reference::{Answer, Call, Carrier, FastLane, Lane, Refusal, Supervisor, Wish};
+use lane_reference::{Answer, Call, FastLane, Lane, Refusal, Supervisor, Wish};
 use std::collections::BTreeSet;
 
 #[test]
@@ -56,7 +56,7 @@ fn histories_reach_every_refusal_and_every_answer() {
             full += u32::from(lane.0.count == 64);
         }
     }
-    let every = (1..=7).chain([9]).chain(21..=28).chain(31..=34).collect();
+    let every = (1..=7).chain([9]).chain(21..=28).chain(31..=35).collect();
     assert_eq!(refusals, every);
     assert_eq!(sorts.len(), 7, "{sorts:?}");
     assert!(full > 1_000 && gone > 1_000 && replaced > 10_000 && last_bit > 100);
@@ -138,7 +138,7 @@ fn arguments_above_their_width_are_refused() {
         let answer = after.call(&wide);
         let numbers: &[u32] = match wide {
             Call::Start { .. } => &[1, 2, 3],
-            Call::Enter { .. } => &[4, 5, 6, 33],
+            Call::Enter { .. } => &[4, 5, 6, 33, 35],
             Call::Leave { .. } | Call::Read { .. } => &[4],
             Call::Surface { .. } => &[1],
             Call::Cycle { .. } | Call::LaneText { .. } | Call::Load { .. } => continue,
@@ -197,11 +197,13 @@ fn the_checker_sees_a_wrong_bit_needless_braking_or_a_wrong_carrier() {
     for bit in 0..64 {
         assert!(observed(2 ^ 1 << bit, &right).is_err(), "bit {bit}");
     }
-    let wrong: [fn(&mut Lane); 13] = [
+    let wrong: [fn(&mut Lane); 15] = [
         |lane| lane.carriers[1].position += 1,
         |lane| lane.carriers[1].speed += 1,
         |lane| lane.carriers[0].length += 1,
         |lane| lane.carriers[1].length += 1,
+        |lane| lane.carriers[0].rate -= 1,
+        |lane| lane.carriers[1].rate -= 1,
         |lane| lane.carriers[0].number = 9,
         |lane| lane.carriers.swap(0, 1),
         |lane| lane.count = 1,
@@ -220,18 +222,6 @@ fn the_checker_sees_a_wrong_bit_needless_braking_or_a_wrong_carrier() {
     assert!(observed(2, &example_lane(1_000)).is_err(), "nobody moved");
 }
 
-/// Lets carriers in one after the other, as an implementation might, safe or
-/// not; gives what the checker says of the last.
-fn let_in(checker: &mut Checker, end: u64, carriers: &[Carrier]) -> Result<(), String> {
-    let mut seen = Ok(());
-    for count in 1..=carriers.len() {
-        let after = lane_of(0, end, 1_000, &carriers[..count]);
-        let entry = Call::Enter(carriers[count - 1]);
-        seen = checker.observe::<Summed>(&entry, false, 0, &after);
-    }
-    seen
-}
-
 /// The follower passes the leader's tail half way and is behind it again at the
 /// end, so a look at cycle ends alone finds nothing. On the last lane the leader
 /// is gone after the cycle.
@@ -239,8 +229,7 @@ fn let_in(checker: &mut Checker, end: u64, carriers: &[Carrier]) -> Result<(), S
 fn the_checker_sees_a_touch_between_cycle_ends() {
     for (length, end) in [(0, 10_000), (300, 10_000), (300, 311), (300, 42)] {
         let leader = long_carrier(1, 10 + length, 0, length);
-        let mut checker = Checker::new(&lane_of(0, end, 1_000, &[]));
-        let seen = let_in(&mut checker, end, &[leader, carrier(2, 5, 32)]);
+        let (mut checker, seen) = let_in(end, &[leader, carrier(2, 5, 32)]);
         assert_eq!(seen, Ok(()));
         let moved = [leader.after(32), carrier(2, 37, 0)];
         let gone = usize::from(moved[0].tail() >= end as i64);
@@ -266,8 +255,7 @@ fn the_checker_sees_a_front_level_with_a_tail() {
         (vec![one, carrier(2, 800, 0), carrier(3, 750, 0)], false),
     ];
     for (carriers, apart) in lanes {
-        let mut checker = Checker::new(&common::lane(0, 10_000, 1_000, &[]));
-        let seen = let_in(&mut checker, 10_000, &carriers);
+        let (_, seen) = let_in(10_000, &carriers);
         assert_eq!(seen.is_ok(), apart, "{carriers:?}");
     }
 }

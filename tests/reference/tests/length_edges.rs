@@ -117,7 +117,7 @@ fn cycle_edges(lane: &Lane, row: &Row, wishes: &[Wish; PLACES], word: u64) -> Ed
                 ("wish: behind a front past the end", past),
             ]);
         }
-        let braking = carrier.braking(row.guaranteed_braking);
+        let braking = carrier.braking(carrier.guaranteed_braking(row));
         let moved = carrier.after(if replaced { braking } else { wished });
         let to_end = moved.tail() - road.end as i64;
         let (long, past) = (carrier.length > 0, moved.position >= road.end);

@@ -2,11 +2,11 @@
 
 mod common;
 
-use common::{calls_that_look, carrier, lane_of, long_carrier, refused, road, wishes};
+use common::{carrier, entered, judged_unsound, lane_of, long_carrier, refused, road, wishes};
 use lane_reference::carrier::LONGEST_CARRIER;
 use lane_reference::headway::{rests_behind, safe_behind};
 use lane_reference::stopping::{distance, Fast, Summed};
-use lane_reference::{Answer, Call, Carrier, Cycled, Lane, Row, Supervisor, Wish};
+use lane_reference::{Call, Carrier, Cycled, Lane, Row, Supervisor, Wish};
 
 const ROW: Row = Row::new(64, 128, 32);
 
@@ -17,22 +17,6 @@ fn lane(carriers: &[Carrier]) -> Lane {
 
 fn enter(number: u64, position: u64, speed: u64, length: u64) -> Call {
     Call::Enter(long_carrier(number, position, speed, length))
-}
-
-fn entered(lane: &Lane, newcomer: Carrier, place: usize) {
-    let answer = lane.clone().enter(newcomer);
-    assert_eq!(answer, Ok(place), "{newcomer:?} on {:?}", lane.present());
-}
-
-fn judged_unsound(lane: &Lane) {
-    for call in calls_that_look() {
-        refused(lane, 21, call);
-    }
-    let start = Call::Start {
-        road: road(0, 1, 1),
-        first: 0,
-    };
-    assert_eq!(lane.clone().call(&start), Ok(Answer::Started));
 }
 
 #[test]
@@ -206,8 +190,8 @@ fn a_front_past_the_end_is_read_and_printed() {
         (reading.position * 2048.0, reading.speed * 128.0),
         (10_500.0, 100.0)
     );
-    let text =
-        b"cars=2\ncar=7\nat=10500\nspeed=100\nlength=1000\ncar=8\nat=9000\nspeed=0\nlength=0\n";
+    let text = b"cars=2\ncar=7\nat=10500\nspeed=100\nlength=1000\nbrake=255\n\
+        car=8\nat=9000\nspeed=0\nlength=0\nbrake=255\n";
     let mut buffer = [0; 128];
     assert_eq!(lane.lane_text(&mut buffer), Ok(text.len()));
     assert_eq!(&buffer[..text.len()], text);
@@ -243,8 +227,8 @@ fn positions_past_the_longest_lane_keep_their_figures() {
     let mut lane = lane_of(0, end, 8_192, &[foremost]);
     let reading = lane.read(65_535).expect("present");
     assert_eq!(reading.position * 2048.0, 2_147_549_182.0);
-    let mut buffer = [0; 64];
-    let text = b"cars=1\ncar=65535\nat=2147549182\nspeed=8192\nlength=65535\n";
+    let mut buffer = [0; 80];
+    let text = b"cars=1\ncar=65535\nat=2147549182\nspeed=8192\nlength=65535\nbrake=255\n";
     assert_eq!(lane.lane_text(&mut buffer), Ok(text.len()));
     assert_eq!(&buffer[..text.len()], text);
     let cycled = lane.cycle(1, &wishes(&[])).expect("sound");

@@ -287,7 +287,8 @@ fn read_is_exact() {
 #[test]
 fn lane_text_needs_its_length_and_leaves_the_rest() {
     let lane = example_lane(1_000);
-    let text = b"cars=2\ncar=7\nat=1000\nspeed=0\nlength=0\ncar=8\nat=700\nspeed=64\nlength=0\n";
+    let text = b"cars=2\ncar=7\nat=1000\nspeed=0\nlength=0\nbrake=255\n\
+        car=8\nat=700\nspeed=64\nlength=0\nbrake=255\n";
     let mut buffer = vec![0xA5; text.len() + 3];
     assert_eq!(lane.lane_text(&mut buffer), Ok(text.len()));
     assert_eq!(&buffer[..text.len()], text);

@@ -3,7 +3,7 @@
 
 mod common;
 
-use common::{carrier, lane, lane_of, long_carrier, refused, road, wishes};
+use common::{carrier, lane, lane_of, let_in, long_carrier, refused, road, wishes};
 use lane_reference::random::{sound_lane, unsound_lane, Random};
 use lane_reference::road_book::Checker;
 use lane_reference::stopping::Summed;
@@ -253,13 +253,8 @@ fn a_lane_is_sound_by_the_new_row() {
 /// `after`; the lane before is that of [`resting_below`] on surface 0.
 fn observed(surface: u64, was_refused: bool, after: &Lane) -> (Checker, Result<(), String>) {
     let before = resting_below(5, 1, 0);
-    let mut checker = Checker::new(&lane(0, 100_000, 1_000, &[]));
-    for count in 1..=2 {
-        let so_far = lane_of(0, 100_000, 1_000, &before.present()[..count]);
-        let entry = Call::Enter(before.present()[count - 1]);
-        let seen = checker.observe::<Summed>(&entry, false, 0, &so_far);
-        assert_eq!(seen, Ok(()));
-    }
+    let (mut checker, seen) = let_in(100_000, before.present());
+    assert_eq!(seen, Ok(()));
     let seen = checker.observe::<Summed>(&change(surface), was_refused, 0, after);
     (checker, seen)
 }

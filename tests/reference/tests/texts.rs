@@ -14,14 +14,15 @@ use std::process::{Command, Stdio};
 const START: &str = "call=start\nsurface=0\nend=10000\nlimit=1000\ncycle=0\n";
 
 const EXAMPLE: &str = "call=start\nsurface=0\nend=10000\nlimit=1000\ncycle=0\n\
-    call=enter\ncar=7\nat=1000\nspeed=0\nlength=0\n\
-    call=enter\ncar=8\nat=700\nspeed=64\nlength=0\n\
+    call=enter\ncar=7\nat=1000\nspeed=0\nlength=0\nbrake=255\n\
+    call=enter\ncar=8\nat=700\nspeed=64\nlength=0\nbrake=255\n\
     call=cycle\ncars=2\nwant=hold\nwant=units:32\n\
     call=show\n";
 
 const EXAMPLE_OUTPUT: &str = "ok=start\nok=enter\nplace=0\nok=enter\nplace=1\n\
     ok=cycle\nover=0000000000000002\ngone=0\n\
-    ok=show\ncars=2\ncar=7\nat=1000\nspeed=0\nlength=0\ncar=8\nat=764\nspeed=0\nlength=0\n";
+    ok=show\ncars=2\ncar=7\nat=1000\nspeed=0\nlength=0\nbrake=255\n\
+    car=8\nat=764\nspeed=0\nlength=0\nbrake=255\n";
 
 fn output(input: &str) -> String {
     String::from_utf8(run(input.as_bytes())).expect("answers are ASCII")
@@ -50,9 +51,9 @@ fn the_example_through_the_program() {
 #[test]
 fn the_edges_about_1020() {
     let end = |position: u32| output(&EXAMPLE.replace("at=1000", &format!("at={position}")));
-    assert!(end(1_020).ends_with("car=8\nat=764\nspeed=0\nlength=0\n"));
+    assert!(end(1_020).ends_with("car=8\nat=764\nspeed=0\nlength=0\nbrake=255\n"));
     assert!(end(1_021).contains("over=0000000000000000\n"));
-    assert!(end(1_021).ends_with("car=8\nat=860\nspeed=96\nlength=0\n"));
+    assert!(end(1_021).ends_with("car=8\nat=860\nspeed=96\nlength=0\nbrake=255\n"));
 }
 
 #[test]
@@ -67,7 +68,7 @@ fn every_call_has_its_answer() {
         (START, "ok=start\n"),
         ("call=show\n", "ok=show\ncars=0\n"),
         (
-            "call=enter\ncar=7\nat=0\nspeed=0\nlength=0\n",
+            "call=enter\ncar=7\nat=0\nspeed=0\nlength=0\nbrake=255\n",
             "ok=enter\nplace=0\n",
         ),
         ("call=leave\ncar=7\n", "ok=leave\n"),
@@ -118,11 +119,13 @@ fn a_malformed_block_does_not_run() {
     let surplus = EXAMPLE.replace("want=units:32\n", "want=units:32\nwant=hold\n");
     assert!(output(&surplus).ends_with("over=0000000000000002\ngone=0\nno=8\n"));
     assert_eq!(
-        output("call=enter\ncar=7\nat=1\nspeed=x\nlength=0\ncall=show\n"),
+        output("call=enter\ncar=7\nat=1\nspeed=x\nlength=0\nbrake=255\ncall=show\n"),
         "no=8\n"
     );
     assert_eq!(output("call=enter\ncar=7\nat=1\n"), "no=8\n");
     assert_eq!(output("call=enter\ncar=7\nat=1\nspeed=0\n"), "no=8\n");
+    let without_brake = "call=enter\ncar=7\nat=1\nspeed=0\nlength=0\n";
+    assert_eq!(output(without_brake), "no=8\n");
     assert_eq!(output("call=show\ncall=read\ncar=7\n"), "no=21\nno=8\n");
 }
 
@@ -157,7 +160,8 @@ fn numbers_fill_their_fields() {
     let widest = "call=start\nsurface=4294967295\nend=4294967295\nlimit=4294967295\n\
         cycle=18446744073709551615\n";
     assert_eq!(output(widest), "no=1\n");
-    let widest = "call=enter\ncar=65535\nat=4294967295\nspeed=4294967295\nlength=4294967295\n";
+    let widest = "call=enter\ncar=65535\nat=4294967295\nspeed=4294967295\nlength=4294967295\n\
+        brake=4294967295\n";
     assert_eq!(output(&format!("{START}{widest}")), "ok=start\nno=5\n");
     for (units, value) in [("-32768", -32_768), ("32767", 32_767), ("0", 0), ("-1", -1)] {
         let text = format!("call=cycle\ncars=1\nwant=units:{units}\n");
@@ -168,9 +172,13 @@ fn numbers_fill_their_fields() {
     }
 }
 
+/// What is printed for an entry at 1 with the lines after that.
+fn entering(lines: &str) -> String {
+    output(&format!("{START}call=enter\ncar=7\nat=1\n{lines}"))
+}
+
 #[test]
 fn a_length_has_32_bits_and_its_place_after_the_speed() {
-    let enter = |lines: &str| output(&format!("{START}call=enter\ncar=7\nat=1\n{lines}"));
     for (length, answer) in [
         ("0", "ok=enter\nplace=0\n"),
         ("65535", "ok=enter\nplace=0\n"),
@@ -182,18 +190,55 @@ fn a_length_has_32_bits_and_its_place_after_the_speed() {
         ("-1", "no=8\n"),
         ("", "no=8\n"),
     ] {
-        let lines = format!("speed=0\nlength={length}\n");
-        assert_eq!(enter(&lines), format!("ok=start\n{answer}"), "{length}");
+        let entered = entering(&format!("speed=0\nlength={length}\nbrake=255\n"));
+        assert_eq!(entered, format!("ok=start\n{answer}"), "{length}");
     }
     for lines in [
-        "length=0\nspeed=0\n",
-        "speed=0\ncall=show\n",
-        "speed=0\nLength=0\n",
+        "length=0\nspeed=0\nbrake=255\n",
+        "speed=0\nbrake=255\n",
+        "speed=0\nLength=0\nbrake=255\n",
+        "speed=0\nlength=0\nlength=0\nbrake=255\n",
     ] {
-        assert_eq!(enter(lines), "ok=start\nno=8\n", "{lines}");
+        assert_eq!(entering(lines), "ok=start\nno=8\n", "{lines}");
     }
-    let twice = enter("speed=0\nlength=0\nlength=0\n");
+}
+
+#[test]
+fn an_own_rate_has_32_bits_and_its_place_after_the_length() {
+    for (rate, answer) in [
+        ("0", "no=35\n"),
+        ("1", "ok=enter\nplace=0\n"),
+        ("255", "ok=enter\nplace=0\n"),
+        ("256", "no=35\n"),
+        ("4294967295", "no=35\n"),
+        ("4294967296", "no=8\n"),
+        ("4294967297", "no=8\n"),
+        ("00", "no=8\n"),
+        ("01", "no=8\n"),
+        ("-1", "no=8\n"),
+        ("", "no=8\n"),
+    ] {
+        let entered = entering(&format!("speed=0\nlength=0\nbrake={rate}\n"));
+        assert_eq!(entered, format!("ok=start\n{answer}"), "{rate}");
+    }
+    for lines in [
+        "speed=0\nbrake=1\nlength=0\n",
+        "speed=0\nlength=0\ncall=show\n",
+        "speed=0\nlength=0\nBrake=1\n",
+        "speed=0\nlength=0\nrate=1\n",
+    ] {
+        assert_eq!(entering(lines), "ok=start\nno=8\n", "{lines}");
+    }
+    let twice = entering("speed=0\nlength=0\nbrake=1\nbrake=1\n");
     assert_eq!(twice, "ok=start\nok=enter\nplace=0\nno=8\n");
+}
+
+/// A figure in the place of another would show.
+#[test]
+fn every_figure_is_printed_in_its_place() {
+    let lines = "speed=3\nlength=5\nbrake=9\n";
+    let shown = entering(&format!("{lines}call=show\n"));
+    assert!(shown.ends_with(&format!("cars=1\ncar=7\nat=1\n{lines}")));
 }
 
 #[test]
@@ -241,8 +286,8 @@ fn rain_on_the_example() {
     };
     assert!(rained(956).contains("place=1\nno=34\nok=cycle\n"));
     assert!(rained(957).contains("place=1\nok=surface\nok=cycle\nover=0000000000000002\n"));
-    assert!(rained(957).ends_with("car=8\nat=812\nspeed=48\nlength=0\n"));
-    assert!(rained(2_000).ends_with("car=8\nat=840\nspeed=76\nlength=0\n"));
+    assert!(rained(957).ends_with("car=8\nat=812\nspeed=48\nlength=0\nbrake=255\n"));
+    assert!(rained(2_000).ends_with("car=8\nat=840\nspeed=76\nlength=0\nbrake=255\n"));
 }
 
 #[test]
@@ -298,11 +343,15 @@ fn the_longest_lane_text() {
     for place in 0..64 {
         let number = 65_535 - place;
         let position = i32::MAX - (1_048_576 + 65_535) * place;
-        input += &format!("call=enter\ncar={number}\nat={position}\nspeed=8192\nlength=65535\n");
+        let rate = 255 - place;
+        input += &format!(
+            "call=enter\ncar={number}\nat={position}\nspeed=8192\nlength=65535\nbrake={rate}\n"
+        );
     }
     let output = output(&(input + "call=show\n"));
     let (_, text) = output.split_once("ok=show\n").expect("shown");
-    assert!(text.starts_with("cars=64\ncar=65535\nat=2147483647\nspeed=8192\nlength=65535\n"));
+    let first = "cars=64\ncar=65535\nat=2147483647\nspeed=8192\nlength=65535\nbrake=255\n";
+    assert!(text.starts_with(first));
     assert_eq!(text.len(), LONGEST_LANE_TEXT);
 }
 

@@ -4,7 +4,7 @@ use super::listing::{lane_text, LONGEST_LANE_TEXT};
 use super::motion::drive;
 use super::{Cycled, Lane, Reading, NUMBERS, PLACES};
 use crate::call::{Answer, Call};
-use crate::carrier::{Carrier, LONGEST_CARRIER};
+use crate::carrier::{Carrier, LONGEST_CARRIER, OWN_RATES};
 use crate::headway::safe_behind;
 use crate::refusal::Refusal;
 use crate::road::Road;
@@ -44,6 +44,7 @@ pub trait Supervisor {
         Refusal::PositionPastEnd.when(newcomer.position >= lane.road.end)?;
         Refusal::SpeedAboveLimit.when(newcomer.speed > lane.road.limit)?;
         Refusal::LengthTooLarge.when(newcomer.length > LONGEST_CARRIER)?;
+        Refusal::OwnRateOutOfRange.when(!OWN_RATES.contains(&newcomer.rate))?;
         let present = lane.present();
         let count = present.len();
         Refusal::LaneFull.when(count == PLACES)?;

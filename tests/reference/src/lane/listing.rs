@@ -3,7 +3,7 @@
 use crate::carrier::Carrier;
 
 /// The longest text of a sound lane: 64 carriers with the widest figures.
-pub const LONGEST_LANE_TEXT: usize = 3_080;
+pub const LONGEST_LANE_TEXT: usize = 3_720;
 
 /// The carriers front to back, a line for each figure, from the buffer's start
 /// on; gives the text's length. The carriers are those of a sound lane.
@@ -14,6 +14,7 @@ pub(super) fn lane_text(carriers: &[Carrier], buffer: &mut [u8]) -> usize {
         at = line(buffer, at, b"at=", carrier.position as u32);
         at = line(buffer, at, b"speed=", carrier.speed as u32);
         at = line(buffer, at, b"length=", carrier.length as u32);
+        at = line(buffer, at, b"brake=", carrier.rate as u32);
     }
     at
 }

@@ -16,15 +16,15 @@ pub(super) fn drive<S: Stopping>(lane: &mut Lane, row: &Row, wished: &[i32; PLAC
     let mut bound = i64::MAX;
     for (place, &wished) in wished.iter().enumerate().take(count) {
         let carrier = lane.carriers[place];
-        let braking = carrier.braking(row.guaranteed_braking);
+        let braking = carrier.braking(carrier.guaranteed_braking(row));
         let mut moved = carrier.after(wished);
-        let stands = wished <= braking || front_at_rest::<S>(moved, row.guaranteed_braking) < bound;
+        let stands = wished <= braking || front_at_rest::<S>(row, moved) < bound;
         if !stands {
             cycled.word |= 1 << place;
             cycled.replaced += 1;
             moved = carrier.after(braking);
         }
-        bound = tail_at_rest::<S>(carrier, row.hardest_braking);
+        bound = tail_at_rest::<S>(row, carrier);
         if lane.road.holds(&moved) {
             lane.carriers[remaining] = moved;
             remaining += 1;

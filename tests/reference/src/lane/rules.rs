@@ -1,7 +1,7 @@
 //! Check 21: the rules that a lane handed in must keep.
 
 use super::{Carrier, Lane, PLACES};
-use crate::carrier::LONGEST_CARRIER;
+use crate::carrier::{LONGEST_CARRIER, OWN_RATES};
 use crate::headway::safe_behind;
 use crate::refusal::Refusal;
 use crate::road::Road;
@@ -47,11 +47,13 @@ impl Met {
 
 impl Carrier {
     /// Whether the carrier by itself breaks no rule. Its words are any: the
-    /// length is looked at before the tail is reckoned with it.
+    /// length is looked at before the tail is reckoned with it, and all of this
+    /// before a stop is reckoned with the own rate.
     fn is_lawful(&self, road: &Road) -> bool {
         NUMBERS.contains(&self.number)
             && self.speed <= road.limit
             && self.length <= LONGEST_CARRIER
+            && OWN_RATES.contains(&self.rate)
             && road.holds(self)
     }
 }

@@ -22,7 +22,7 @@ use Part::{Key, Line, Number, ValueOf};
 pub type LineBreak = (Part, &'static str);
 
 /// The breaks of one line.
-pub const LINE_BREAKS: [LineBreak; 63] = [
+pub const LINE_BREAKS: [LineBreak; 64] = [
     (Line, ""),
     (Line, "\n#"),
     (Line, "#\n"),
@@ -64,6 +64,7 @@ pub const LINE_BREAKS: [LineBreak; 63] = [
     (ValueOf("at"), "4294967296"),
     (ValueOf("speed"), "4294967296"),
     (ValueOf("length"), "4294967296"),
+    (ValueOf("brake"), "4294967296"),
     (ValueOf("car"), "65536"),
     (ValueOf("cycle"), "18446744073709551616"),
     (ValueOf("cars"), "65"),

@@ -1,7 +1,7 @@
 //! The figures at which a rule just holds. They must not panic on any lane,
 //! so they are reckoned in 128 bits.
 
-use crate::carrier::Carrier;
+use crate::carrier::{Carrier, OWN_RATES};
 use crate::lane::Lane;
 use crate::stopping::fast;
 use crate::surface::{Row, RATES};
@@ -33,22 +33,29 @@ fn stop(rate: u64, speed: u64) -> i128 {
     fast(rate as u32, narrow(speed) as u32).into()
 }
 
+/// The guaranteed braking with an own rate, or one near it with which a stop can
+/// be reckoned.
+pub fn guaranteed(row: &Row, own_rate: u64) -> u64 {
+    own_rate.clamp(*OWN_RATES.start(), row.guaranteed_braking)
+}
+
 /// Where a carrier's tail is, whatever its words are.
 pub fn tail(carrier: Carrier) -> i128 {
     i128::from(carrier.position) - i128::from(carrier.length)
 }
 
-/// The foremost position at which a carrier with `speed` is safe behind `leader`.
-pub fn nearest_behind(row: &Row, leader: Carrier, speed: u64) -> i128 {
+/// The foremost position at which `follower`, wherever it is, would be safe behind
+/// `leader`.
+pub fn nearest_behind(row: &Row, leader: Carrier, follower: Carrier) -> i128 {
     let leader_stop = stop(row.hardest_braking, leader.speed);
-    let lead = leader_stop - stop(row.guaranteed_braking, speed);
+    let lead = leader_stop - stop(guaranteed(row, follower.rate), follower.speed);
     tail(leader) - 1 + lead.min(0)
 }
 
 /// The rearmost position of the tail at which `follower` is safe behind a
 /// carrier with `speed`.
 pub fn nearest_tail_ahead(row: &Row, follower: Carrier, speed: u64) -> i128 {
-    let follower_stop = stop(row.guaranteed_braking, follower.speed);
+    let follower_stop = stop(guaranteed(row, follower.rate), follower.speed);
     let lag = follower_stop - stop(row.hardest_braking, speed);
     i128::from(follower.position) + 1 + lag.max(0)
 }
@@ -57,8 +64,8 @@ pub fn nearest_tail_ahead(row: &Row, follower: Carrier, speed: u64) -> i128 {
 /// safe behind the next one ahead: 0 is just safe, −1 is unsafe by one.
 pub fn slacks<'a>(row: &'a Row, lane: &'a Lane) -> impl Iterator<Item = i128> + 'a {
     lane.present().windows(2).map(|pair| {
-        let nearest = nearest_behind(row, pair[0], pair[1].speed);
-        nearest - i128::from(pair[1].position)
+        let (leader, follower) = (pair[0], pair[1]);
+        nearest_behind(row, leader, follower) - i128::from(follower.position)
     })
 }
 
@@ -88,7 +95,7 @@ pub fn greatest_standing(row: &Row, limit: u64, follower: Carrier, leader: Carri
             let speed = follower.speed.saturating_add_signed(wished);
             let gained = i128::from(speed) + i128::from(follower.speed);
             let driven = i128::from(follower.position) + gained;
-            driven + stop(row.guaranteed_braking, speed) < bound
+            driven + stop(guaranteed(row, follower.rate), speed) < bound
         })
         .unwrap_or(lowest)
 }

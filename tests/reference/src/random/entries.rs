@@ -1,8 +1,9 @@
 //! Entries that are just safe or just not. Their figures are such as a line of
 //! text can hold, whatever the lane is.
 
-use super::edges::{narrow, nearest_behind, nearest_tail_ahead, row_of, tail};
+use super::edges::{guaranteed, narrow, nearest_behind, nearest_tail_ahead, row_of, tail};
 use super::lengths::{edge_length, length, sound_length, to_length};
+use super::rates::{rate, sound_rate};
 use super::surfaces::rows_for_change;
 use super::Random;
 use crate::carrier::{Carrier, LONGEST_CARRIER};
@@ -15,19 +16,21 @@ const OFFSETS: [i128; 8] = [0, 0, 0, 0, 1, 1, -1, 2];
 /// An entry of any sort, refused ones among them. Some are fitted to other rows
 /// as well, under which the lane may be put next.
 pub fn entry(random: &mut Random, lane: &Lane) -> Carrier {
-    let mut newcomer = Carrier {
-        number: number(random, lane),
-        position: narrow(random.below(narrow(lane.road.end) + 2)),
-        speed: speed(random, lane, &row_of(lane)),
-        length: length(random),
-    };
     let rows = if random.chance(30) {
         rows_for_change(lane)
     } else {
         vec![row_of(lane)]
     };
+    let rate = rate(random, &rows);
+    let mut newcomer = Carrier {
+        number: number(random, lane),
+        position: narrow(random.below(narrow(lane.road.end) + 2)),
+        speed: speed(random, lane, &rows[0], rate),
+        length: length(random),
+        rate,
+    };
     match random.below(12) {
-        0..=3 => newcomer.position = behind(random, lane, &rows, newcomer.speed),
+        0..=3 => newcomer.position = behind(random, lane, &rows, newcomer),
         4..=6 => ahead(random, lane, &rows, &mut newcomer),
         7..=8 => fill_gap(random, lane, &rows, &mut newcomer),
         9 => newcomer.position = near_end(random, lane),
@@ -43,39 +46,49 @@ pub fn entry(random: &mut Random, lane: &Lane) -> Carrier {
 /// An entry at the back that succeeds, as tight as can be, unless the lane is
 /// full or has no room left.
 pub fn closing_up(random: &mut Random, lane: &Lane) -> Carrier {
-    let number = unused_number(random, lane);
     let row = row_of(lane);
-    let speed = speed(random, lane, &row).min(lane.road.limit);
-    let nearest = |rear, speed| nearest_behind(&row, rear, speed);
-    at_the_back(random, lane, number, speed, nearest)
+    let newcomer = newcomer(random, lane, &[row]);
+    let nearest = |rear, newcomer| nearest_behind(&row, rear, newcomer);
+    at_the_back(random, lane, newcomer, nearest)
 }
 
 /// As [`closing_up`], but under other rows too the newcomer is just safe, or now
 /// and then unsafe by one.
 pub fn closing_up_for_change(random: &mut Random, lane: &Lane) -> Carrier {
-    let number = unused_number(random, lane);
     let rows = rows_for_change(lane);
     // Rarer, the more carriers there are, so that whole long lanes are safe too.
     let present = lane.present().len().max(1);
     let past = i128::from(random.index(2 * present) == 0);
-    let nearest = |rear, speed| {
-        let others = nearest_behind_under(&rows[1..], rear, speed);
-        nearest_behind(&rows[0], rear, speed).min(others + past)
+    let nearest = |rear, newcomer| {
+        let others = nearest_behind_under(&rows[1..], rear, newcomer);
+        nearest_behind(&rows[0], rear, newcomer).min(others + past)
     };
-    let speed = telling_speed(random, lane, &rows);
-    at_the_back(random, lane, number, speed, nearest)
+    let newcomer = telling_newcomer(random, lane, &rows);
+    at_the_back(random, lane, newcomer, nearest)
 }
 
-/// Of a few speeds one with which the other rows ask for more room behind the last
-/// carrier than the first, if it is among them. Where they brake better, remainders
-/// alone may bring that about, at speeds of a few times the rates.
-fn telling_speed(random: &mut Random, lane: &Lane, rows: &[Row]) -> u64 {
-    let mut tried = 0;
+/// A carrier that no call refuses for its figures, for any place.
+fn newcomer(random: &mut Random, lane: &Lane, rows: &[Row]) -> Carrier {
+    let rate = sound_rate(random, rows);
+    Carrier {
+        number: unused_number(random, lane),
+        position: 0,
+        speed: speed(random, lane, &rows[0], rate).min(lane.road.limit),
+        length: sound_length(random),
+        rate,
+    }
+}
+
+/// A newcomer with, of a few speeds, one at which the other rows ask for more room
+/// behind the last carrier than the first, if it is among them. Where they brake
+/// better, remainders alone may bring that about, at speeds of a few times the rates.
+fn telling_newcomer(random: &mut Random, lane: &Lane, rows: &[Row]) -> Carrier {
+    let mut tried = newcomer(random, lane, rows);
     for _ in 0..8 {
         let row = random.pick(rows);
         let low = random.below(4 * row.hardest_braking + 1);
-        let any = speed(random, lane, &row);
-        tried = random.pick(&[any, low]).min(lane.road.limit);
+        let any = speed(random, lane, &row, tried.rate);
+        tried.speed = random.pick(&[any, low]).min(lane.road.limit);
         let tells = |&rear: &Carrier| {
             let others = nearest_behind_under(&rows[1..], rear, tried);
             others < nearest_behind(&rows[0], rear, tried)
@@ -87,30 +100,23 @@ fn telling_speed(random: &mut Random, lane: &Lane, rows: &[Row]) -> u64 {
     tried
 }
 
-/// A carrier at the position that is `nearest` behind the last one with its
-/// speed, or a little back; one that stands where that would be before the start.
+/// The newcomer at the position that is `nearest` behind the last carrier, or a
+/// little back; it stands where that would be before the start.
 fn at_the_back(
     random: &mut Random,
     lane: &Lane,
-    number: u64,
-    mut speed: u64,
-    nearest: impl Fn(Carrier, u64) -> i128,
+    mut newcomer: Carrier,
+    nearest: impl Fn(Carrier, Carrier) -> i128,
 ) -> Carrier {
-    let position = match lane.present().last() {
+    newcomer.position = match lane.present().last() {
         Some(&rear) => {
-            if nearest(rear, speed) < 0 {
-                speed = 0;
+            if nearest(rear, newcomer) < 0 {
+                newcomer.speed = 0;
             }
             let slack = random.pick(&[0, 0, 0, 1, 500]);
-            to_position(nearest(rear, speed) - slack)
+            to_position(nearest(rear, newcomer) - slack)
         }
         None => near_end(random, lane).min(lane.road.end.saturating_sub(1)),
-    };
-    let mut newcomer = Carrier {
-        number,
-        position,
-        speed,
-        length: sound_length(random),
     };
     newcomer.length = closing_length(random, lane, newcomer);
     newcomer
@@ -139,8 +145,8 @@ fn neighbour(random: &mut Random, lane: &Lane, usual: usize) -> Option<Carrier> 
 }
 
 /// The foremost position behind `leader` that is safe under all rows.
-fn nearest_behind_under(rows: &[Row], leader: Carrier, speed: u64) -> i128 {
-    let positions = rows.iter().map(|row| nearest_behind(row, leader, speed));
+fn nearest_behind_under(rows: &[Row], leader: Carrier, follower: Carrier) -> i128 {
+    let positions = rows.iter().map(|row| nearest_behind(row, leader, follower));
     positions.fold(i128::MAX, i128::min)
 }
 
@@ -152,11 +158,11 @@ fn nearest_tail_ahead_under(rows: &[Row], follower: Carrier, speed: u64) -> i128
     tails.fold(i128::MIN, i128::max)
 }
 
-fn behind(random: &mut Random, lane: &Lane, rows: &[Row], speed: u64) -> u64 {
+fn behind(random: &mut Random, lane: &Lane, rows: &[Row], newcomer: Carrier) -> u64 {
     let rear = lane.present().len().saturating_sub(1);
     match neighbour(random, lane, rear) {
         Some(leader) => {
-            let nearest = nearest_behind_under(rows, leader, speed);
+            let nearest = nearest_behind_under(rows, leader, newcomer);
             to_position(nearest + random.pick(&OFFSETS))
         }
         None => near_end(random, lane),
@@ -187,7 +193,7 @@ fn fill_gap(random: &mut Random, lane: &Lane, rows: &[Row], newcomer: &mut Carri
     let foremost = || i128::from(lane.road.end) - 1;
     let leader = place.checked_sub(1).map(|ahead| present[ahead]);
     let front = leader.map_or_else(foremost, |leader| {
-        nearest_behind_under(rows, leader, newcomer.speed)
+        nearest_behind_under(rows, leader, *newcomer)
     });
     let rearmost_tail = present.get(place).map_or(0, |&follower| {
         nearest_tail_ahead_under(rows, follower, newcomer.speed)
@@ -216,20 +222,22 @@ fn near_end(random: &mut Random, lane: &Lane) -> u64 {
     random.pick(&[last, last, last.saturating_sub(1), end, past, within, close])
 }
 
-/// Speeds about the multiples of a row's braking rates and about the limit.
-pub fn speed(random: &mut Random, lane: &Lane, row: &Row) -> u64 {
+/// Speeds about the multiples of a row's braking rates and of a carrier's own, and
+/// about the limit.
+pub fn speed(random: &mut Random, lane: &Lane, row: &Row, own_rate: u64) -> u64 {
     let (b, hardest) = (row.guaranteed_braking, row.hardest_braking);
     let limit = narrow(lane.road.limit);
-    let times = 1 + random.below(9);
+    let own = guaranteed(row, own_rate);
+    let rate = random.pick(&[own, own, b, hardest]);
+    let multiple = (1 + random.below(9)) * rate;
     let within = random.below(limit + 1);
     let edges = [
         0,
         1,
-        times * b - 1,
-        times * b,
-        times * b + 1,
-        times * hardest - 1,
-        times * hardest,
+        multiple - 1,
+        multiple,
+        multiple,
+        multiple + 1,
         limit,
         limit.saturating_sub(1),
         within,

@@ -6,9 +6,9 @@ use super::entries::{closing_up, closing_up_for_change, speed};
 use super::lengths::sound_length;
 use super::surfaces::unsafe_surface;
 use super::tables::{any_tables, sound_tables, unsound_table};
-use super::wide::{wide, wide_length, wide_number};
+use super::wide::{wide, wide_figure, wide_length, wide_number};
 use super::Random;
-use crate::carrier::{Carrier, LONGEST_CARRIER};
+use crate::carrier::{Carrier, LONGEST_CARRIER, OWN_RATES};
 use crate::lane::{Lane, PLACES};
 use crate::road::Road;
 use crate::surface::Tables;
@@ -62,12 +62,14 @@ fn leftovers(random: &mut Random) -> [Carrier; PLACES] {
         position: random.bits() >> 32,
         speed: random.bits() >> 32,
         length: sound_length(random),
+        rate: random.below(256),
     };
     let any = Carrier {
         number: random.bits(),
         position: random.bits(),
         speed: random.bits(),
         length: random.bits(),
+        rate: random.bits(),
     };
     [random.pick(&[Carrier::default(), left, any]); PLACES]
 }
@@ -169,7 +171,7 @@ fn overstep(random: &mut Random, lane: &mut Lane) {
     let follower = 1 + random.index(lane.present().len() - 1);
     let ahead = random.index(follower);
     let most = u32::MAX.into();
-    match random.below(17) {
+    match random.below(20) {
         0 => lane.started = false,
         1 => lane.road.surface = random.pick(&[8, 9, most]),
         2 => lane.road.end = random.pick(&[0, (1 << 31) + 1, most]),
@@ -185,6 +187,8 @@ fn overstep(random: &mut Random, lane: &mut Lane) {
         12 => level_with_tail(lane, follower, ahead),
         13 => too_long(lane, follower),
         14..=15 => too_wet(random, lane, follower),
+        16 => lane.carriers[place].rate = random.pick(&[0, 0, 256, 256, most]),
+        17..=18 => too_weak(random, lane, follower),
         _ => too_near(random, lane, follower),
     }
 }
@@ -211,11 +215,10 @@ fn level_with_tail(lane: &mut Lane, follower: usize, ahead: usize) {
 /// that no carrier may be so long.
 fn too_long(lane: &mut Lane, follower: usize) {
     let row = row_of(lane);
-    let Carrier {
-        position, speed, ..
-    } = lane.carriers[follower];
+    let follower_there = lane.carriers[follower];
     let leader = &mut lane.carriers[follower - 1];
-    let slack = nearest_behind(&row, *leader, speed) - i128::from(position);
+    let nearest = nearest_behind(&row, *leader, follower_there);
+    let slack = nearest - i128::from(follower_there.position);
     leader.length += slack as u64 + 1;
 }
 
@@ -232,7 +235,7 @@ fn too_wet(random: &mut Random, lane: &mut Lane, follower: usize) {
 fn widen(random: &mut Random, lane: &mut Lane) {
     let place = random.index(lane.present().len());
     let carrier = &mut lane.carriers[place];
-    match random.below(9) {
+    match random.below(11) {
         0 => lane.road.surface = wide(random, lane.road.surface),
         1 => lane.road.end = wide(random, lane.road.end),
         2 => lane.road.limit = wide(random, lane.road.limit),
@@ -241,6 +244,7 @@ fn widen(random: &mut Random, lane: &mut Lane) {
         5 => carrier.position = wide(random, carrier.position),
         6 => carrier.speed = wide(random, carrier.speed),
         7 => carrier.length = wide_length(random, carrier.length),
+        8..=9 => carrier.rate = wide_figure(random, carrier.rate),
         _ => {
             // The tail is where it was.
             let bit = 1 << (17 + random.below(47));
@@ -251,12 +255,26 @@ fn widen(random: &mut Random, lane: &mut Lane) {
 
 /// Moves the follower one past the nearest position that is safe.
 fn too_near(random: &mut Random, lane: &mut Lane, follower: usize) {
-    let leader = lane.carriers[follower - 1];
+    let (leader, mut moved) = (lane.carriers[follower - 1], lane.carriers[follower]);
     let row = row_of(lane);
-    let speed = speed(random, lane, &row).min(lane.road.limit);
-    let nearest = nearest_behind(&row, leader, speed);
+    moved.speed = speed(random, lane, &row, moved.rate).min(lane.road.limit);
+    let nearest = nearest_behind(&row, leader, moved);
     // Where this speed finds no room at all, level with the leader will do.
-    let position = u64::try_from(nearest + 1).unwrap_or(leader.position);
-    lane.carriers[follower].position = position;
-    lane.carriers[follower].speed = speed;
+    moved.position = u64::try_from(nearest + 1).unwrap_or(leader.position);
+    lane.carriers[follower] = moved;
+}
+
+/// Gives the follower the greatest own rate with which it is not safe; where there
+/// is none, moves it too near.
+fn too_weak(random: &mut Random, lane: &mut Lane, follower: usize) {
+    let (leader, there) = (lane.carriers[follower - 1], lane.carriers[follower]);
+    let row = row_of(lane);
+    let weak = |&rate: &u64| {
+        let weakened = Carrier { rate, ..there };
+        nearest_behind(&row, leader, weakened) < there.position.into()
+    };
+    match OWN_RATES.rev().find(weak) {
+        Some(rate) => lane.carriers[follower].rate = rate,
+        None => too_near(random, lane, follower),
+    }
 }

@@ -36,8 +36,9 @@ pub fn carrier_lines(carrier: &Carrier) -> String {
         position,
         speed,
         length,
+        rate,
     } = carrier;
-    format!("car={number}\nat={position}\nspeed={speed}\nlength={length}\n")
+    format!("car={number}\nat={position}\nspeed={speed}\nlength={length}\nbrake={rate}\n")
 }
 
 fn want_line(wish: &Wish) -> String {

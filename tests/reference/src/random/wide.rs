@@ -28,7 +28,7 @@ pub fn wide_length(random: &mut Random, length: u64) -> u64 {
     random.pick(&[above, above, wrapping])
 }
 
-/// The figure of a row with a bit above 8 set, or with all.
+/// The figure of a row, or an own rate, with a bit above 8 set, or with all.
 pub fn wide_figure(random: &mut Random, figure: u64) -> u64 {
     above(random, 8, figure)
 }
@@ -42,18 +42,19 @@ fn wide_code(random: &mut Random, code: u64) -> u64 {
 /// and a load stay as they are.
 pub fn widened(random: &mut Random, call: &Call) -> Call {
     let mut call = call.clone();
-    let argument = random.below(12);
+    let argument = random.below(15);
     match &mut call {
         Call::Start { road, .. } => match argument % 3 {
             0 => road.surface = wide(random, road.surface),
             1 => road.end = wide(random, road.end),
             _ => road.limit = wide(random, road.limit),
         },
-        Call::Enter(carrier) => match argument % 4 {
+        Call::Enter(carrier) => match argument % 5 {
             0 => carrier.number = wide_number(random, carrier.number),
             1 => carrier.position = wide(random, carrier.position),
             2 => carrier.speed = wide(random, carrier.speed),
-            _ => carrier.length = wide_length(random, carrier.length),
+            3 => carrier.length = wide_length(random, carrier.length),
+            _ => carrier.rate = wide_figure(random, carrier.rate),
         },
         Call::Leave { number } | Call::Read { number } => *number = wide_number(random, *number),
         Call::Surface { surface } => *surface = wide_code(random, *surface),

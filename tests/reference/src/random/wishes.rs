@@ -1,7 +1,7 @@
 //! Wishes at the ends of trimming, of standing and of the float ranges, and floats
 //! at the halves between units.
 
-use super::edges::{greatest_standing, just_gone, row_of, trimming_ends};
+use super::edges::{greatest_standing, guaranteed, just_gone, row_of, trimming_ends};
 use super::Random;
 use crate::carrier::Carrier;
 use crate::lane::{Lane, PLACES};
@@ -121,14 +121,16 @@ fn leaving(lane: &Lane, carrier: Carrier) -> Option<i64> {
 fn mixed(random: &mut Random, lane: &Lane, carrier: Carrier, standing: i64) -> Wish {
     let row = row_of(lane);
     let (lowest, highest) = trimming_ends(&row, lane.road.limit, carrier.speed);
-    let braking = i64::from(carrier.braking(row.guaranteed_braking));
+    let braking = |rate| i64::from(carrier.braking(rate));
+    let by_row = braking(row.guaranteed_braking);
+    let guaranteed = braking(guaranteed(&row, carrier.rate));
     match random.below(10) {
         0 => Wish::Hold,
         1 => Wish::Units(random.bits() as i16),
         2 => Wish::Units(random.pick(&[i16::MIN, i16::MAX, -1, 0, 1])),
         3 => float(random),
         _ => {
-            let usual = random.pick(&[lowest, highest, braking, standing]);
+            let usual = random.pick(&[lowest, highest, guaranteed, by_row, standing]);
             let leaving = leaving(lane, carrier).unwrap_or(usual);
             let edge = random.pick(&[usual, leaving]);
             let units = edge + random.between(-1, 1);

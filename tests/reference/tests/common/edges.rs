@@ -27,10 +27,8 @@ pub fn number(outcome: &Outcome) -> u32 {
 /// How far the follower's front is below the leader's tail, now and at rest: 0
 /// is level.
 pub fn gaps(row: &Row, follower: Carrier, leader: Carrier) -> [i64; 2] {
-    let follower_rest = front_at_rest::<Fast>(follower, row.guaranteed_braking);
-    let leader_rest = tail_at_rest::<Fast>(leader, row.hardest_braking);
     [
         leader.tail() - follower.front(),
-        leader_rest - follower_rest,
+        tail_at_rest::<Fast>(row, leader) - front_at_rest::<Fast>(row, follower),
     ]
 }

@@ -4,20 +4,32 @@
 pub mod edges;
 
 use lane_reference::random::table_text;
-use lane_reference::{Call, Carrier, Lane, Refusal, Road, Supervisor, Table, Wish, PLACES};
+use lane_reference::road_book::Checker;
+use lane_reference::stopping::Summed;
+use lane_reference::{Answer, Call, Carrier, Lane, Refusal, Road, Supervisor, Table, Wish, PLACES};
 
-/// A carrier of no length from number, position and speed.
+/// A carrier of no length, which brakes as every row asks, from number, position
+/// and speed.
 pub fn carrier(number: u64, position: u64, speed: u64) -> Carrier {
     long_carrier(number, position, speed, 0)
 }
 
-/// A carrier from number, position, speed and length.
+/// As [`carrier`], with a length.
 pub fn long_carrier(number: u64, position: u64, speed: u64, length: u64) -> Carrier {
     Carrier {
         number,
         position,
         speed,
         length,
+        rate: 255,
+    }
+}
+
+/// As [`carrier`], with an own rate.
+pub fn rated_carrier(number: u64, position: u64, speed: u64, rate: u64) -> Carrier {
+    Carrier {
+        rate,
+        ..carrier(number, position, speed)
     }
 }
 
@@ -30,8 +42,8 @@ pub fn road(surface: u64, end: u64, limit: u64) -> Road {
     }
 }
 
-/// A started lane from cycle 0 on, with carriers of no length given as number,
-/// position and speed, front to back, unchecked.
+/// A started lane from cycle 0 on, with carriers as [`carrier`] makes them of
+/// number, position and speed, front to back, unchecked.
 pub fn lane(surface: u64, end: u64, limit: u64, carriers: &[(u64, u64, u64)]) -> Lane {
     let points = carriers
         .iter()
@@ -94,4 +106,35 @@ pub fn refused(lane: &Lane, number: u32, call: Call) {
     let answer = after.call(&call);
     assert_eq!(answer.map_err(Refusal::number), Err(number), "{call:?}");
     assert_eq!(after, *lane, "{call:?} changed the lane");
+}
+
+/// Asserts that the newcomer gets in at `place`.
+pub fn entered(lane: &Lane, newcomer: Carrier, place: usize) {
+    let answer = lane.clone().enter(newcomer);
+    assert_eq!(answer, Ok(place), "{newcomer:?} on {:?}", lane.present());
+}
+
+/// Asserts that every call that looks at the lane gets 21, and that a start doesn't.
+pub fn judged_unsound(lane: &Lane) {
+    for call in calls_that_look() {
+        refused(lane, 21, call);
+    }
+    let start = Call::Start {
+        road: road(0, 1, 1),
+        first: 0,
+    };
+    assert_eq!(lane.clone().call(&start), Ok(Answer::Started));
+}
+
+/// Lets carriers in on surface 0 one after the other, as an implementation might,
+/// safe or not; gives the checker that saw it, and what it says of the last.
+pub fn let_in(end: u64, carriers: &[Carrier]) -> (Checker, Result<(), String>) {
+    let mut checker = Checker::new(&lane_of(0, end, 1_000, &[]));
+    let mut seen = Ok(());
+    for count in 1..=carriers.len() {
+        let after = lane_of(0, end, 1_000, &carriers[..count]);
+        let entry = Call::Enter(carriers[count - 1]);
+        seen = checker.observe::<Summed>(&entry, false, 0, &after);
+    }
+    (checker, seen)
 }
