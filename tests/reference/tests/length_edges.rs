@@ -2,7 +2,7 @@
 
 mod common;
 
-use common::edges::{add, gaps, number, Edges, Met, Outcome};
+use common::edges::{add, gaps, neighbours, number, Edges, Met, Outcome};
 use lane_reference::random::{history, sound_lane, unsound_lane, History, Random};
 use lane_reference::stopping::Fast;
 use lane_reference::{Answer, Call, Carrier, FastLane, Lane, Row, Supervisor, Wish, PLACES};
@@ -76,11 +76,6 @@ fn behind_edges(row: &Row, newcomer: Carrier, follower: Carrier, no: u32) -> Edg
 }
 
 fn entry_edges(lane: &Lane, row: &Row, newcomer: Carrier, no: u32) -> Edges {
-    let present = lane.present();
-    let walked = present
-        .iter()
-        .position(|carrier| carrier.position < newcomer.position);
-    let place = walked.unwrap_or(present.len());
     let mut edges = refused_lengths(lane, newcomer, no);
     if no == 0 {
         edges.extend(accepted_lengths(lane, newcomer));
@@ -88,11 +83,11 @@ fn entry_edges(lane: &Lane, row: &Row, newcomer: Carrier, no: u32) -> Edges {
     if ![0, 25, 26].contains(&no) {
         return edges;
     }
-    let leader = place.checked_sub(1).map(|ahead| present[ahead]);
-    if let Some(leader) = leader.filter(|leader| leader.length > 0) {
+    let [ahead, behind] = neighbours(lane, newcomer);
+    if let Some(leader) = ahead.filter(|leader| leader.length > 0) {
         edges.extend(ahead_edges(row, newcomer, leader, no));
     }
-    if let Some(&follower) = present.get(place).filter(|_| newcomer.length > 0) {
+    if let Some(follower) = behind.filter(|_| newcomer.length > 0) {
         edges.extend(behind_edges(row, newcomer, follower, no));
     }
     edges

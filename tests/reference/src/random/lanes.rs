@@ -171,7 +171,7 @@ fn overstep(random: &mut Random, lane: &mut Lane) {
     let follower = 1 + random.index(lane.present().len() - 1);
     let ahead = random.index(follower);
     let most = u32::MAX.into();
-    match random.below(20) {
+    match random.below(21) {
         0 => lane.started = false,
         1 => lane.road.surface = random.pick(&[8, 9, most]),
         2 => lane.road.end = random.pick(&[0, (1 << 31) + 1, most]),
@@ -187,8 +187,8 @@ fn overstep(random: &mut Random, lane: &mut Lane) {
         12 => level_with_tail(lane, follower, ahead),
         13 => too_long(lane, follower),
         14..=15 => too_wet(random, lane, follower),
-        16 => lane.carriers[place].rate = random.pick(&[0, 0, 256, 256, most]),
-        17..=18 => too_weak(random, lane, follower),
+        16..=17 => lane.carriers[place].rate = random.pick(&[0, 0, 256, 256, most]),
+        18..=19 => too_weak(random, lane, follower),
         _ => too_near(random, lane, follower),
     }
 }

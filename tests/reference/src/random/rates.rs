@@ -19,7 +19,7 @@ pub fn sound_rate(random: &mut Random, rows: &[Row]) -> u64 {
 /// such as would be within it, were it cut to 8 or 16 bits.
 pub fn rate(random: &mut Random, rows: &[Row]) -> u64 {
     let sound = sound_rate(random, rows);
-    if random.chance(4) {
+    if random.chance(6) {
         random.pick(&[0, 0, 256, 256, 256 + sound, 65_536 + sound, u32::MAX.into()])
     } else {
         sound

@@ -2,7 +2,7 @@
 
 use lane_reference::headway::{front_at_rest, tail_at_rest};
 use lane_reference::stopping::Fast;
-use lane_reference::{Answer, Carrier, Refusal, Row};
+use lane_reference::{Answer, Carrier, Lane, Refusal, Row, Wish, PLACES};
 use std::collections::BTreeMap;
 
 pub type Outcome = Result<Answer, Refusal>;
@@ -31,4 +31,42 @@ pub fn gaps(row: &Row, follower: Carrier, leader: Carrier) -> [i64; 2] {
         leader.tail() - follower.front(),
         tail_at_rest::<Fast>(row, leader) - front_at_rest::<Fast>(row, follower),
     ]
+}
+
+/// The neighbours that a newcomer would have, ahead and behind.
+pub fn neighbours(lane: &Lane, newcomer: Carrier) -> [Option<Carrier>; 2] {
+    let present = lane.present();
+    let lower = |carrier: &Carrier| carrier.position < newcomer.position;
+    let place = present.iter().position(lower).unwrap_or(present.len());
+    let ahead = place.checked_sub(1).map(|ahead| present[ahead]);
+    [ahead, present.get(place).copied()]
+}
+
+/// A carrier in a cycle that ran, with one ahead of it.
+#[derive(Clone, Copy)]
+pub struct Follower {
+    pub carrier: Carrier,
+    pub leader: Carrier,
+    /// Its wish, trimmed.
+    pub wished: i32,
+    pub replaced: bool,
+}
+
+/// All of them, as before the cycle, which gave `word`.
+pub fn followers<'a>(
+    lane: &'a Lane,
+    row: &'a Row,
+    wishes: &'a [Wish; PLACES],
+    word: u64,
+) -> impl Iterator<Item = Follower> + 'a {
+    let pairs = (1..).zip(lane.present().windows(2));
+    pairs.map(move |(place, pair)| {
+        let wished = wishes[place].trimmed(row, lane.road.limit, pair[1]);
+        Follower {
+            carrier: pair[1],
+            leader: pair[0],
+            wished: wished.expect("the cycle ran"),
+            replaced: word >> place & 1 == 1,
+        }
+    })
 }
