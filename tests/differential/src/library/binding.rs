@@ -2,7 +2,7 @@
 //! lane is looked at as plain words, row by row.
 
 /// The interface that this file is for.
-pub const VERSION: u32 = 5;
+pub const VERSION: u32 = 6;
 
 /// A lane as it is lent.
 pub type Words = [[u64; 8]; 89];
@@ -20,6 +20,7 @@ pub struct Carrier {
     pub position: u64,
     pub speed: u64,
     pub length: u64,
+    pub rate: u64,
 }
 
 /// A C `bool` as it lies in memory, so that one that is neither can be told.

@@ -60,6 +60,7 @@ fn plain(lane: &mut Words, call: &Call) -> (u32, Vec<u64>) {
                 position: carrier.position,
                 speed: carrier.speed,
                 length: carrier.length,
+                rate: carrier.rate,
             };
             let entered = unsafe { rondavitse_enter(lane, carrier) };
             (entered.no, vec![entered.place as u64])

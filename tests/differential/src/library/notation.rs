@@ -36,6 +36,7 @@ fn print_call(call: &HostCall) -> String {
                 carrier.position,
                 carrier.speed,
                 carrier.length,
+                carrier.rate,
             ];
             format!("enter{}\n", joined(&figures))
         }
@@ -127,6 +128,7 @@ fn parse_plain(word: &str, words: &mut SplitWhitespace) -> Option<Call> {
             position: figure(words)?,
             speed: figure(words)?,
             length: figure(words)?,
+            rate: figure(words)?,
         }),
         "leave" => Call::Leave {
             number: figure(words)?,

@@ -19,7 +19,7 @@ const COUNT: usize = 5;
 /// How many words of the first row count, of a surface row and of a record.
 const FIGURES: usize = 6;
 const FIGURES_OF_ROW: usize = 3;
-const FIGURES_OF_RECORD: usize = 4;
+const FIGURES_OF_RECORD: usize = 5;
 
 /// Words of a lane that counts as never started.
 const NEVER_STARTED: [u64; 6] = [0, 0, 2, 256, (1 << 32) + 1, u64::MAX];
@@ -43,12 +43,13 @@ pub fn lane(words: &Words) -> Lane {
         carriers: [Carrier::default(); PLACES],
     };
     for (carrier, row) in lane.carriers.iter_mut().zip(&words[RECORDS..]) {
-        let [number, position, speed, length, ..] = *row;
+        let [number, position, speed, length, rate, ..] = *row;
         *carrier = Carrier {
             number,
             position,
             speed,
             length,
+            rate,
         };
     }
     lane
@@ -80,8 +81,9 @@ pub fn plain(lane: &Lane) -> Words {
             position,
             speed,
             length,
+            rate,
         } = carrier;
-        row[..FIGURES_OF_RECORD].copy_from_slice(&[number, position, speed, length]);
+        row[..FIGURES_OF_RECORD].copy_from_slice(&[number, position, speed, length, rate]);
     }
     words
 }
