@@ -27,10 +27,10 @@ def cases():
 def most_printed():
     """A full lane of the widest figures, shown as often as the input has room for."""
     start = b"call=start\nsurface=0\nend=2147483648\nlimit=8192\ncycle=0\n"
-    # At 8,192 the stop at b takes 1,048,576 and the stop at B less: a gap of as much to the tail ahead is safe.
+    # At 8,192 the stop at b takes 1,048,576 and the stop at B less: a gap of as much to the tail ahead is safe. No own rate is below b.
     step = 1_048_576 + 65_535
-    carriers = [(65_535 - place, 2_147_483_647 - step * place, 8_192, 65_535) for place in range(64)]
-    lines = [b"car=%d\nat=%d\nspeed=%d\nlength=%d\n" % carrier for carrier in carriers]
+    carriers = [(65_535 - place, 2_147_483_647 - step * place, 8_192, 65_535, 255 - place) for place in range(64)]
+    lines = [b"car=%d\nat=%d\nspeed=%d\nlength=%d\nbrake=%d\n" % carrier for carrier in carriers]
     enters = b"".join(b"call=enter\n" + block for block in lines)
     entered = b"".join(b"ok=enter\nplace=%d\n" % place for place in range(64))
     text = b"cars=64\n" + b"".join(lines)
