@@ -50,7 +50,7 @@ static rondavitse_lane lane_with(uint64_t position, uint64_t speed) {
     rondavitse_lane lane;
     rondavitse_empty(&lane);
     rondavitse_start(&lane, (rondavitse_road){0, RONDAVITSE_FARTHEST_END, RONDAVITSE_FASTEST}, 0);
-    rondavitse_enter(&lane, (rondavitse_carrier){1, 0, speed, RONDAVITSE_LONGEST_CARRIER});
+    rondavitse_enter(&lane, (rondavitse_carrier){1, 0, speed, RONDAVITSE_LONGEST_CARRIER, RONDAVITSE_HIGHEST_RATE});
     lane.records[0].position = position;
     return lane;
 }
