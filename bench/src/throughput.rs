@@ -10,13 +10,13 @@ const RUNS: usize = 101;
 /// The most that the program reads.
 const MOST_BYTES: usize = 65_536;
 
-/// A full lane that stands, each front right behind a tail, and as many cycles
-/// as go in.
+/// A full lane that stands, each front right behind a tail, with all sorts of own
+/// rates, and as many cycles as go in.
 fn input() -> Vec<u8> {
     let mut text = String::from("call=start\nsurface=0\nend=1000000\nlimit=1000\ncycle=0\n");
     for car in 1..=64 {
-        let at = 100_000 - 1_000 * car;
-        text += &format!("call=enter\ncar={car}\nat={at}\nspeed=0\nlength=999\n");
+        let (at, rate) = (100_000 - 1_000 * car, 4 * car - 1);
+        text += &format!("call=enter\ncar={car}\nat={at}\nspeed=0\nlength=999\nbrake={rate}\n");
     }
     let cycle = format!("call=cycle\ncars=64\n{}", "want=hold\n".repeat(64));
     while text.len() + cycle.len() <= MOST_BYTES {
