@@ -77,17 +77,18 @@ module _ (r : Row) (c : Carrier) (cs : List Carrier) where
       by-test false e = refl
 
 -- "25 not safe behind the carrier ahead; 26 the carrier behind not safe", looked at last and in this order
-pub entry-answers : (s : State) (c : Carrier) (place : ℕ) → broken s ≡ false → Newcomer (s .road) c → s .count < 64
-    → ((i : ℕ) → i < length (s .carriers) → ¬ (getD (s .carriers) i none .number ≡ c .number))
-    → place ≤ length (s .carriers) → ((i : ℕ) → i < place → c .position ≤ getD (s .carriers) i none .position)
-    → (place < length (s .carriers) → getD (s .carriers) place none .position < c .position)
-    → ((0 < place → SafeBy (rowIn (s .tables) (s .road)) (getD (s .carriers) (place - 1) none) c)
-    → (place < length (s .carriers) → SafeBy (rowIn (s .tables) (s .road)) c (getD (s .carriers) place none))
-    → callNo (enter-call c) s ≡ 0)
-    × (0 < place → ¬ (SafeBy (rowIn (s .tables) (s .road)) (getD (s .carriers) (place - 1) none) c) → callNo (enter-call c) s ≡ 25)
-    × ((0 < place → SafeBy (rowIn (s .tables) (s .road)) (getD (s .carriers) (place - 1) none) c)
-    → place < length (s .carriers) → ¬ (SafeBy (rowIn (s .tables) (s .road)) c (getD (s .carriers) place none))
-    → callNo (enter-call c) s ≡ 26)
+pub entry-answers : (s : State) (c : Carrier) (place : ℕ) →
+    let cs = s .carriers in
+    let r = rowIn (s .tables) (s .road) in
+    let Safe : (ahead d : Carrier) → Type 0 = λ a d.
+    (d .position + a .length < a .position)
+    × (d .position + a .length + stoppingDistance (min (d .rate) (r .guaranteed)) (d .speed) < a .position + stoppingDistance (r .hardest) (a .speed))
+    in
+    broken s ≡ false → Newcomer (s .road) c → s .count < 64 → ((i : ℕ) → i < length cs → ¬ (getD cs i none .number ≡ c .number))
+    → place ≤ length cs → ((i : ℕ) → i < place → c .position ≤ getD cs i none .position) → (place < length cs → getD cs place none .position < c .position)
+    → ((0 < place → Safe (getD cs (place - 1) none) c) → (place < length cs → Safe c (getD cs place none)) → callNo (enter-call c) s ≡ 0)
+    × (0 < place → ¬ (Safe (getD cs (place - 1) none) c) → callNo (enter-call c) s ≡ 25)
+    × ((0 < place → Safe (getD cs (place - 1) none) c) → place < length cs → ¬ (Safe c (getD cs place none)) → callNo (enter-call c) s ≡ 26)
 unfolding enterNo placeNo gapNo
 entry-answers s c place e own room new within before at = (
   λ front back. by-gap ∙ rw (ahead-safe r c cs place front, behind-safe r c cs place back) refl,

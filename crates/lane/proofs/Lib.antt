@@ -1,6 +1,7 @@
 -- `Laws`, `Alike`, `CallLaws`, `CycleLaws`, `TableLaws` and `Answerable` are what the crates above may use; `Newcomers` has an entry's own values in
--- numbers, `SurfaceLaws` a change of surface, `Cases` is the table of the marked cases, and `Looked` says what a lookup's count means. Before them
--- stand the laws behind them and behind the functions, in groups; a function's own proof is in a folder of its module's and its own name.
+-- numbers, `EntryLaws` who is let in, `SurfaceLaws` a change of surface, `Cases` is the table of the marked cases, and `Looked` says what a lookup's
+-- count means. Before them stand the laws behind them and behind the functions, in groups; a function's own proof is in a folder of its module's and
+-- its own name.
 mod lists
 mod checks
 mod driving

@@ -2,7 +2,7 @@
 use mathlib.Core.Path.{_≡_, refl, _∙_}
 use mathlib.Core.Bool.{Bool, true, false, cond}
 use mathlib.Core.List.{List, [], _∷_}
-use Prim.Native.Nat.{ℕ, zero, suc, _+_, _≤_, _<_}
+use Prim.Native.Nat.{ℕ, zero, suc, _+_, _≤_, _<_, min}
 use native.Mathlib.Nat.{zero-mul, zero-div, zero-mod}
 use native.Mathlib.Omega.{arith}
 use borrow.Author.Tests.{lt-ltb, le-ltb}
@@ -17,7 +17,7 @@ use Rattle.lane.specs.Safety.{laneSafe}
 use Rattle.lane.specs.Rules.{broken}
 use Rattle.lane.specs.Calls.{none, surfaceNo}
 use Rattle.lane.specs.Call.{surface-call, callNo}
-use Rattle.lane.proofs.EntryLaws.{SafeBy, numbers-safe, safe-numbers}
+use Rattle.lane.proofs.EntryLaws.{numbers-safe, safe-numbers}
 use Rattle.lane.proofs.checks.Surfaces.{row-brakes, rate-brakes, sound-at}
 use Rattle.lane.proofs.checks.Soundness.{rated-at, sound}
 use Rattle.lane.proofs.calls.Order.{safe-neighbours, safe-behind-leader}
@@ -44,17 +44,18 @@ surface-in-force s e = let h = sound s e in rw (e, le-ltb 7 (s .road .surface) (
 
 -- "The change is accepted if the whole lane is safe under the new row and refused otherwise.": with guaranteed braking of the one behind and B of the
 -- one ahead, by the tail of that one; "34 the lane wouldn't be safe, after 21 and 1"
-pub surface-answers : (s : State) (code : ℕ)
-    → (broken s ≡ true → callNo (surface-call code) s ≡ 21)
+pub surface-answers : (s : State) (code : ℕ) →
+    let r = rowOf (s .tables .inForce) code in
+    let Safe : ℕ → Type 0 = λ i.
+    let a = getD (s .carriers) i none in
+    let d = getD (s .carriers) (suc i) none in
+    (d .position + a .length < a .position)
+    × (d .position + a .length + stoppingDistance (min (d .rate) (r .guaranteed)) (d .speed) < a .position + stoppingDistance (r .hardest) (a .speed))
+    in
+    (broken s ≡ true → callNo (surface-call code) s ≡ 21)
     × (broken s ≡ false → 7 < code → callNo (surface-call code) s ≡ 1)
-    × (broken s ≡ false → code ≤ 7
-    → ((i : ℕ) → suc i < length (s .carriers)
-    → SafeBy (rowOf (s .tables .inForce) code) (getD (s .carriers) i none) (getD (s .carriers) (suc i) none))
-    → callNo (surface-call code) s ≡ 0)
-    × (broken s ≡ false → code ≤ 7
-    → (i : ℕ) → suc i < length (s .carriers)
-    → ¬ (SafeBy (rowOf (s .tables .inForce) code) (getD (s .carriers) i none) (getD (s .carriers) (suc i) none))
-    → callNo (surface-call code) s ≡ 34)
+    × (broken s ≡ false → code ≤ 7 → ((i : ℕ) → suc i < length (s .carriers) → Safe i) → callNo (surface-call code) s ≡ 0)
+    × (broken s ≡ false → code ≤ 7 → (i : ℕ) → suc i < length (s .carriers) → ¬ (Safe i) → callNo (surface-call code) s ≡ 34)
 unfolding surfaceNo
 surface-answers s code = (
   λ e. rw e refl,

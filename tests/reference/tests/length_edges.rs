@@ -2,10 +2,10 @@
 
 mod common;
 
-use common::edges::{add, gaps, neighbours, number, Edges, Met, Outcome};
-use lane_reference::random::{history, sound_lane, unsound_lane, History, Random};
+use common::edges::{add, each_call, gaps, neighbours, number, Edges, Met, Outcome};
+use lane_reference::random::{sound_lane, unsound_lane, Random};
 use lane_reference::stopping::Fast;
-use lane_reference::{Answer, Call, Carrier, FastLane, Lane, Row, Supervisor, Wish, PLACES};
+use lane_reference::{Answer, Call, Carrier, Lane, Row, Wish, PLACES};
 
 /// Entries that are accepted, by the length alone.
 fn accepted_lengths(lane: &Lane, newcomer: Carrier) -> Edges {
@@ -168,15 +168,7 @@ fn edges(before: &Lane, call: &Call, outcome: &Outcome) -> Edges {
 #[test]
 fn histories_crowd_the_edges_of_lengths() {
     let mut met = Met::new();
-    for seed in 0..1_000 {
-        let History { first, calls } = history(&mut Random::new(seed), 130);
-        let mut lane = FastLane(first);
-        for call in &calls {
-            let before = lane.0;
-            let outcome = lane.call(call);
-            add(&mut met, edges(&before, call, &outcome));
-        }
-    }
+    each_call(|before, call, outcome, _| add(&mut met, edges(before, call, outcome)));
     assert!(met.values().all(|&times| times > 5), "{met:?}");
 }
 

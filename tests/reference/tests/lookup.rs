@@ -2,8 +2,8 @@
 
 mod common;
 
+use common::edges::each_call;
 use common::{carrier, full_lane, refused};
-use lane_reference::random::{history, History, Random};
 use lane_reference::{Call, FastLane, Lane, Lookup, Refusal, Supervisor};
 use std::collections::BTreeMap;
 
@@ -148,20 +148,14 @@ fn edges(lane: &Lane, most: usize, number: u64) -> [(&'static str, bool); 6] {
 #[test]
 fn histories_crowd_the_edges_of_a_lookup() {
     let mut met = BTreeMap::new();
-    for seed in 0..1_000 {
-        let History { first, calls } = history(&mut Random::new(seed), 130);
-        let mut lane = FastLane(first);
-        for call in &calls {
-            let before = lane.0;
-            let answer = lane.call(call);
-            let Some((name, most, number)) = asked(call).filter(|_| looked_up(&answer)) else {
-                continue;
-            };
-            for (edge, there) in edges(&before, most, number) {
-                *met.entry((name, edge)).or_insert(0) += u32::from(there);
-            }
+    each_call(|before, call, outcome, _| {
+        let Some((name, most, number)) = asked(call).filter(|_| looked_up(outcome)) else {
+            return;
+        };
+        for (edge, there) in edges(before, most, number) {
+            *met.entry((name, edge)).or_insert(0) += u32::from(there);
         }
-    }
+    });
     assert!(
         met.len() == 3 * 6 && met.values().all(|&times| times > 5),
         "{met:?}"

@@ -3,10 +3,10 @@
 
 mod common;
 
-use common::edges::{followers, neighbours, number, Follower, Outcome};
-use lane_reference::random::{history, sound_lane, unsound_lane, History, Random};
+use common::edges::{each_call, followers, neighbours, number, Follower, Outcome};
+use lane_reference::random::{sound_lane, unsound_lane, Random};
 use lane_reference::stopping::{fast, Fast};
-use lane_reference::{Answer, Call, Carrier, FastLane, Lane, Row, Supervisor};
+use lane_reference::{Answer, Call, Carrier, Lane, Row};
 use std::collections::BTreeMap;
 
 /// The rate at which one of a follower and its leader is taken to brake.
@@ -132,15 +132,7 @@ impl Otherwise {
 #[test]
 fn histories_tell_mistaken_rates() {
     let mut otherwise = Otherwise::default();
-    for seed in 0..1_000 {
-        let History { first, calls } = history(&mut Random::new(seed), 130);
-        let mut lane = FastLane(first);
-        for call in &calls {
-            let before = lane.0;
-            let outcome = lane.call(call);
-            otherwise.call(&before, call, &outcome);
-        }
-    }
+    each_call(|before, call, outcome, _| otherwise.call(before, call, outcome));
     for (what, least) in [
         ("25", 80),
         ("26", 50),

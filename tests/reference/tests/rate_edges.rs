@@ -2,8 +2,10 @@
 
 mod common;
 
-use common::edges::{add, followers, gaps, neighbours, number, Edges, Follower, Met, Outcome};
-use lane_reference::random::{history, sound_lane, unsound_lane, History, Random};
+use common::edges::{
+    add, each_call, followers, gaps, neighbours, number, Edges, Follower, Met, Outcome,
+};
+use lane_reference::random::{sound_lane, unsound_lane, Random};
 use lane_reference::stopping::Fast;
 use lane_reference::{Answer, Call, Carrier, FastLane, Lane, Row, Supervisor};
 
@@ -214,16 +216,10 @@ fn edges(lane: &Lane, call: &Call, outcome: &Outcome) -> Edges {
 #[test]
 fn histories_crowd_the_edges_of_own_rates() {
     let mut met = Met::new();
-    for seed in 0..1_000 {
-        let History { first, calls } = history(&mut Random::new(seed), 130);
-        let mut lane = FastLane(first);
-        for call in &calls {
-            let before = lane.0;
-            let outcome = lane.call(call);
-            add(&mut met, edges(&before, call, &outcome));
-            add(&mut met, moved_up(&before, call, &lane.0));
-        }
-    }
+    each_call(|before, call, outcome, after| {
+        add(&mut met, edges(before, call, outcome));
+        add(&mut met, moved_up(before, call, after));
+    });
     assert!(met.values().all(|&times| times > 8), "{met:?}");
     for (edge, least) in [
         ("25: rests level, rate below b", 40),

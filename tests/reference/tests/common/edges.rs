@@ -1,8 +1,11 @@
 //! Edges that random histories and lanes meet, counted by their names.
 
 use lane_reference::headway::{front_at_rest, tail_at_rest};
+use lane_reference::random::{history, History, Random};
 use lane_reference::stopping::Fast;
-use lane_reference::{Answer, Carrier, Lane, Refusal, Row, Wish, PLACES};
+use lane_reference::{
+    Answer, Call, Carrier, FastLane, Lane, Refusal, Row, Supervisor, Wish, PLACES,
+};
 use std::collections::BTreeMap;
 
 pub type Outcome = Result<Answer, Refusal>;
@@ -16,6 +19,20 @@ pub type Met = BTreeMap<&'static str, u32>;
 pub fn add(met: &mut Met, edges: Edges) {
     for (edge, there) in edges {
         *met.entry(edge).or_insert(0) += u32::from(there);
+    }
+}
+
+/// Each call of 1,000 random histories, with its outcome and the lane before and
+/// after it.
+pub fn each_call(mut look: impl FnMut(&Lane, &Call, &Outcome, &Lane)) {
+    for seed in 0..1_000 {
+        let History { first, calls } = history(&mut Random::new(seed), 130);
+        let mut lane = FastLane(first);
+        for call in &calls {
+            let before = lane.0;
+            let outcome = lane.call(call);
+            look(&before, call, &outcome, &lane.0);
+        }
     }
 }
 
