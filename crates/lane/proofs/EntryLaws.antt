@@ -1,11 +1,11 @@
 -- An entry in numbers, where the lane breaks no rule, the newcomer's own values are in range, and its number and a place are free: it is let in exactly
 -- where it is safe behind the carrier ahead and who is then behind it is safe too, and else turned away by 25 or 26.
-use mathlib.Core.Path.{_≡_, refl, _∙_}
-use mathlib.Core.Bool.{Bool, true, false, not, _&&_}
+use mathlib.Core.Path.{_≡_, refl, sym, _∙_}
+use mathlib.Core.Bool.{Bool, true, false, not, _&&_, true≢false}
 use mathlib.Core.List.{List, [], _∷_}
 use Prim.Native.Nat.{ℕ, zero, suc, _+_, _-_, _≤_, _<_, min}
 use native.Mathlib.Omega.{arith}
-use borrow.Author.Tests.{lt-ltb, le-ltb, ltb-true, ne-eqb}
+use borrow.Author.Tests.{lt-ltb, le-ltb, ltb-true, eq-eqb, ne-eqb}
 use lib.Dec.{ltb, eqb·suc-zero}
 use lib.ListN.{length, getD}
 use Rattle.headway.specs.Stopping.{stoppingDistance}
@@ -15,10 +15,11 @@ use Rattle.lane.specs.declared.Row.{Row}
 use Rattle.lane.specs.Surface.{rowIn}
 use Rattle.lane.specs.State.{State}
 use Rattle.lane.specs.Safety.{leader, safeWith, anyOf, firstPlace, numbered}
-use Rattle.lane.specs.Rules.{broken}
+use Rattle.lane.specs.Rules.{newcomerNo, broken}
 use Rattle.lane.specs.Calls.{none, aheadOf, walk, gapNo, placeNo, enterNo}
 use Rattle.lane.specs.Call.{enter-call, callNo}
 use Rattle.lane.proofs.Newcomers.{Newcomer, newcomer-passes}
+use Rattle.lane.proofs.lists.Tests.{none-at}
 
 -- ---- where the walk ends
 pub walk-ends : (position : ℕ) (cs : List Carrier) (place : ℕ) → place ≤ length cs → ((i : ℕ) → i < place → position ≤ getD cs i none .position)
@@ -34,6 +35,29 @@ absent : (number : ℕ) (cs : List Carrier) → ((i : ℕ) → i < length cs →
 unfolding anyOf
 absent number [] h = refl
 absent number (c ∷ cs) h = rw (ne-eqb (c .number) number (h 0 (omega arith))) (absent number cs (λ i p. h (suc i) (omega arith)))
+
+-- and one that some carrier has
+present : (number : ℕ) (cs : List Carrier) (i : ℕ) → i < length cs → getD cs i none .number ≡ number → anyOf (numbered number) cs ≡ true
+present number cs i h e = by-test (anyOf (numbered number) cs) refl
+  where
+    by-test : (t : Bool) → anyOf (numbered number) cs ≡ t → t ≡ true
+    by-test true q = refl
+    by-test false q = absurd (true≢false (sym (eq-eqb (getD cs i none .number) number e) ∙ none-at (numbered number) cs i none q h))
+
+-- ---- the checks before the gap, in their order: 21, then the newcomer's own values, then "22 64 carriers present; 23 number present"
+pub entry-refused : (s : State) (c : Carrier)
+    → (broken s ≡ true → callNo (enter-call c) s ≡ 21)
+    × (broken s ≡ false → ¬ (newcomerNo (s .road) c ≡ 0) → callNo (enter-call c) s ≡ newcomerNo (s .road) c)
+    × (broken s ≡ false → Newcomer (s .road) c → s .count ≡ 64 → callNo (enter-call c) s ≡ 22)
+    × (broken s ≡ false → Newcomer (s .road) c → s .count < 64
+    → (i : ℕ) → i < length (s .carriers) → getD (s .carriers) i none .number ≡ c .number → callNo (enter-call c) s ≡ 23)
+unfolding enterNo placeNo
+entry-refused s c = (
+  λ e. rw e refl,
+  λ e own. rw (e, ne-eqb (newcomerNo (s .road) c) 0 own) refl,
+  λ e own full. rw (e, newcomer-passes (s .road) c own, eq-eqb (s .count) 64 full) refl,
+  λ e own room i h there. rw (e, newcomer-passes (s .road) c own, ne-eqb (s .count) 64 (λ f. omega arith), present (c .number) (s .carriers) i h there) refl,
+)
 
 -- ---- safe behind in numbers, by a row: the front below the tail ahead, and so where the two stop, the one behind by T-06's "smaller of its own rate
 -- and the row's b", the one ahead by the row's B
