@@ -60,9 +60,10 @@ newcomer-passes road c h =
     )
     refl
 
--- "33 length too large, after 6"; "35 own rate outside its range, after 33": who is too fast and too long is told the first, and who is too long and
--- has a rate out of range too
-pub own-values-in-order : (road : Road) (c : Carrier) → 1 ≤ c .number → c .number ≤ 65535 → c .position < road .end
-    → newcomerNo road c ≡ cond (ltb (road .limit) (c .speed)) 6 (cond (ltb 65535 (c .length)) 33 (cond (ltb (c .rate) 1 || ltb 255 (c .rate)) 35 0))
+-- 4, 5 and 6 in this order; "33 length too large, after 6"; "35 own rate outside its range, after 33": who breaks several is told the first
+pub own-values-in-order : (road : Road) (c : Carrier) → newcomerNo road c
+    ≡ cond (ltb (c .number) 1 || ltb 65535 (c .number)) 4
+    (cond (leb (road .end) (c .position)) 5
+    (cond (ltb (road .limit) (c .speed)) 6 (cond (ltb 65535 (c .length)) 33 (cond (ltb (c .rate) 1 || ltb 255 (c .rate)) 35 0))))
 unfolding newcomerNo
-own-values-in-order road c p q h = rw (le-ltb (c .number) 1 p, le-ltb 65535 (c .number) q, lt-leb (road .end) (c .position) h) refl
+own-values-in-order road c = refl

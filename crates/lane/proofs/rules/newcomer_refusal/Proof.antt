@@ -2,10 +2,10 @@
 use mathlib.Core.Path.{_≡_, refl, sym, _∙_}
 use mathlib.Core.Bool.{false, cond}
 use borrow.Author.Needs.{needs}
-use borrow.Author.Tests.{lt-ltb, le-ltb, le-leb}
+use borrow.Author.Tests.{lt-ltb, le-ltb, le-leb, lt-leb}
 use lib.Dec.{ltb}
 use Rattle.lane.specs.Rules.{badNumber, badRate, newcomerNo}
-use Rattle.lane.proofs.Newcomers.{within, newcomer-passes, own-values-in-order}
+use Rattle.lane.proofs.Newcomers.{own-values-in-order}
 use Rattle.lane.proofs.rules.newcomer_refusal.Statement.{statement}
 use Rattle.lane.proofs.rules.newcomer_refusal.Tie as tie
 
@@ -28,8 +28,7 @@ speed-decides : (c : tie.Else2) → let a = c .before .before .before .before .b
     newcomerNo (a .road) (a .c) ≡ cond (ltb (a .road .limit) (a .c .speed)) 6 (cond (ltb 65535 (a .c .length)) 33 (cond (badRate (a .c .rate)) 35 0))
 speed-decides c =
     let a = c .before .before .before .before .before .args in
-    let number = within 1 65535 (a .c .number) (good-number (c .before .before .before)) in
-    own-values-in-order (a .road) (a .c) (number .0) (number .1) (c .if2 .left)
+    own-values-in-order (a .road) (a .c) ∙ rw (good-number (c .before .before .before), lt-leb _ _ (c .if2 .left)) refl
 
 returns-3 : tie.Need-returns-3
 returns-3 c = rw (speed-decides (c .before .before .before), lt-ltb _ _ (c .if3 .taken)) refl
