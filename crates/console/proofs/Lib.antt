@@ -3,6 +3,7 @@ mod Printing
 mod Showing
 mod Room
 mod Lines
+mod Entries
 mod Wishing
 mod Steps
 pub mod Calls

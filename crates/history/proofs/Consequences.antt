@@ -13,6 +13,9 @@ use lib.Signed.{_<ℤ_, <ℤ-irrefl}
 use Rattle.headway.specs.Motion.{positionAfter}
 use Rattle.headway.specs.Wishes.{restsBehind}
 use Rattle.headway.proofs.Laws.{fraction-form, fraction-at-start, fraction-at-end, braking-is}
+use Rattle.wish.specs.Units.{unitsOf}
+use Rattle.wish.specs.Trimming.{trimmedTo}
+use Rattle.wish.specs.declared.Converted.the-variants.{Units}
 use Rattle.wish.specs.declared.Wish.{Wish}
 use Rattle.wish.specs.declared.Wish.the-variants.{Hold}
 use Rattle.lane.specs.declared.Carrier.{Carrier}
@@ -173,6 +176,12 @@ module _ (after : Words) (count word : ℕ) (ws : List Wish) (b : Book)
       neither : (t : Bool) → t && false ≡ false
       neither true = refl
       neither false = refl
+
+-- a wish is trimmed by the row's B and A and by the limit, whatever the carrier's own rate
+pub trimmed-by-the-row : (b : Book) (c : Carrier) (w : Wish) (z : ℤ) → unitsOf w (c .speed) ≡ Units z
+    → trimmedIn b c w ≡ trimmedTo z (c .speed) (rowIn (b .tables) (b .road) .hardest) (rowIn (b .tables) (b .road) .most) (b .road .limit)
+unfolding trimmedIn
+trimmed-by-the-row b c w z e = rw e refl
 
 -- ---- of lists
 

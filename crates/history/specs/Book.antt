@@ -76,7 +76,8 @@ trimmedIn b c w =
 abbrev pub guaranteedIn : Book → Carrier → ℕ
 guaranteedIn b c = min (c .rate) (rowIn (b .tables) (b .road) .guaranteed)
 
--- "or −(smaller of b and v) where bit i is set", of the carrier's guaranteed braking: the accelerations of the carriers, front to back; place 0 has the lowest bit
+-- "or −(smaller of b and v) where bit i is set", of the carrier's guaranteed braking: the accelerations of the carriers, front to back; place 0 has
+-- the lowest bit
 unfoldable pub drivenIn : Book → (word : ℕ) → List Carrier → List Wish → List ℤ
 drivenIn b word [] ws = []
 drivenIn b word (c ∷ cs) [] = []

@@ -8,11 +8,15 @@ use borrow.Author.Tests.{ltb-true, ltb-false}
 use lib.Dec.{ltb}
 use lib.ListN.{length, drop}
 use lib.Seq.{length-take-le}
+use Rattle.text.specs.Ascii.{ascii}
+use Rattle.text.specs.Numbers.{decimal}
+use Rattle.text.specs.Lines.{line}
+use Rattle.lane.specs.declared.Carrier.{Carrier}
 use Rattle.lane.specs.Limits.{longestText}
 use Rattle.lane.specs.State.{State}
 use Rattle.lane.specs.Layout.{Words, stateOf}
 use Rattle.lane.specs.Rules.{broken}
-use Rattle.lane.specs.Listing.{laneText, textNo, textBytes}
+use Rattle.lane.specs.Listing.{carrierText, laneText, textNo, textBytes}
 use Rattle.lane.specs.Call.{text-call, bare, told, callAnswer}
 use Rattle.lane.specs.Given.{wishesNo, wishesGiven}
 use Rattle.lane.proofs.lists.Passed.{passed}
@@ -21,6 +25,14 @@ use Rattle.lane.proofs.driving.Making.{made-take, enough-made}
 use Rattle.lane.proofs.calls.Answers.{refused-answers, accepted-answers}
 
 -- ---- the lane text
+
+-- the lines of a carrier, each with its own number
+pub carrier-lines : (c : Carrier) → carrierText c
+    ≡ line (ascii "car=") (decimal (c .number))
+    ++ (line (ascii "at=") (decimal (c .position))
+    ++ (line (ascii "speed=") (decimal (c .speed)) ++ (line (ascii "length=") (decimal (c .length)) ++ line (ascii "brake=") (decimal (c .rate)))))
+unfolding carrierText
+carrier-lines c = refl
 
 -- of two checks, 21 before 9
 no-nine : (b c : Bool) → ¬ (_≡_ {A = ℕ} (cond b 21 (cond c 9 0)) 9) → _≡_ {A = ℕ} (cond b 21 (cond c 9 0)) (cond b 21 0)

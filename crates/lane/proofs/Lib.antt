@@ -1,6 +1,6 @@
 -- `Laws`, `Alike`, `CallLaws`, `CycleLaws`, `TableLaws` and `Answerable` are what the crates above may use; `Newcomers` has an entry's own values in
--- numbers, `EntryLaws` who is let in, `SurfaceLaws` a change of surface, `Cases` is the table of the marked cases, and `Looked` says what a lookup's
--- count means. Before them stand the laws behind them and behind the functions, in groups; a function's own proof is in a folder of its module's and
+-- numbers, `EntryLaws` who is let in, `SurfaceLaws` a change of surface, `Unbroken` what 21 passes, `Cases` is the table of the marked cases, and
+-- `Looked` says what a lookup's count means. Before them stand the laws behind them and behind the functions, in groups; a function's own proof is in a folder of its module's and
 -- its own name.
 mod lists
 mod checks
@@ -8,6 +8,7 @@ mod driving
 mod calls
 pub mod Newcomers
 pub mod EntryLaws
+mod Unbroken
 pub mod Laws
 mod Cases
 mod Looked

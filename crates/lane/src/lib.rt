@@ -71,7 +71,8 @@ pub type Lane = [[u64; ROW_WORDS]; ROWS];
 // A terminal's surface rows: guaranteed braking, hardest braking and most acceleration of each code.
 pub type Table = [[u64; 3]; SURFACES];
 
-// The position is that of the front; the tail is the length behind it. The rate is its own: it brakes at that or at the row's, whichever is smaller.
+// The position is that of the front; the tail is the length behind it. The rate is its own: it is
+// sure to brake at that or at the row's, whichever is smaller.
 #[repr(C)]
 pub struct Carrier {
     pub number: u64,

@@ -75,19 +75,27 @@ pub record Fit (road : Road) (c : Carrier) : Type 0 where
   pub rate-most : c .rate ≤ 255
   pub before-end : c .position < road .end + c .length
 
-pub fit : (road : Road) (c : Carrier) → unlawful road c ≡ false → pastEnd road c ≡ false → Fit road c
-unfolding unlawful pastEnd
-fit road c e p =
+-- what a lawful one passes
+pub lawful-in : (road : Road) (c : Carrier) → unlawful road c ≡ false
+    → (badNumber (c .number) ≡ false) × (tooFast road c ≡ false) × (tooLong c ≡ false) × (badRate (c .rate) ≡ false)
+unfolding unlawful
+lawful-in road c e =
     let s = neither (badNumber (c .number) || tooFast road c || tooLong c) (badRate (c .rate)) e in
     let t = neither (badNumber (c .number) || tooFast road c) (tooLong c) (s .0) in
     let u = neither (badNumber (c .number)) (tooFast road c) (t .0) in
-    let number = within 1 65535 (c .number) (u .0) in
-    let rate = within 1 255 (c .rate) (s .1) in
+    (u .0, u .1, t .1, s .1)
+
+pub fit : (road : Road) (c : Carrier) → unlawful road c ≡ false → pastEnd road c ≡ false → Fit road c
+unfolding pastEnd
+fit road c e p =
+    let own = lawful-in road c e in
+    let number = within 1 65535 (c .number) (own .0) in
+    let rate = within 1 255 (c .rate) (own .3) in
     record {
       number-least = number .0;
       number-most = number .1;
-      slow = ltb-false (road .limit) (c .speed) (u .1);
-      short = ltb-false 65535 (c .length) (t .1);
+      slow = ltb-false (road .limit) (c .speed) (own .1);
+      short = ltb-false 65535 (c .length) (own .2);
       rate-least = rate .0;
       rate-most = rate .1;
       before-end = leb-false (road .end + c .length) (c .position) p;
@@ -95,10 +103,7 @@ fit road c e p =
 
 -- so that lawful carriers have rates
 pub rated-at : (road : Road) (cs : List Carrier) → anyOf (unlawful road) cs ≡ false → (i : ℕ) → i < length cs → 1 ≤ getD cs i none .rate
-unfolding unlawful
-rated-at road cs e i h =
-    let c = getD cs i none in
-    within 1 255 (c .rate) (neither (badNumber (c .number) || tooFast road c || tooLong c) (badRate (c .rate)) (none-at (unlawful road) cs i none e h) .1) .0
+rated-at road cs e i h = within 1 255 _ (lawful-in road (getD cs i none) (none-at (unlawful road) cs i none e h) .3) .0
 
 -- a newcomer that passes its own checks: where its front is before the end, its tail is
 pub newcomer-lawful : (road : Road) (c : Carrier) → Newcomer road c → unlawful road c ≡ false

@@ -1,6 +1,6 @@
 -- The carriers after a cycle: each keeps its number, its length and its own rate, and none is faster than the limit.
 use mathlib.Core.Path.{_≡_, refl}
-use mathlib.Core.Bool.{Bool, true, false, _||_, cond}
+use mathlib.Core.Bool.{Bool, true, false, cond}
 use mathlib.Core.List.{List, [], _∷_}
 use Prim.Native.Nat.{ℕ, _≤_}
 use native.Mathlib.Omega.{arith}
@@ -14,10 +14,11 @@ use Rattle.lane.specs.declared.Drive.{Drive}
 use Rattle.lane.specs.declared.Road.{Road}
 use Rattle.lane.specs.declared.Row.{Row}
 use Rattle.lane.specs.Safety.{Ahead, leader, guaranteedRate, anyOf, numbered, repeats}
-use Rattle.lane.specs.Rules.{badNumber, tooFast, tooLong, badRate, unlawful}
+use Rattle.lane.specs.Rules.{unlawful}
 use Rattle.lane.specs.Wishes.{trimmed, stands, drive, drives, moved, allMoved}
 use Rattle.lane.proofs.driving.Drives.{Leads, trimmed-leads, braking-leads}
 use Rattle.lane.proofs.lists.Tests.{neither}
+use Rattle.lane.proofs.checks.Soundness.{lawful-in}
 
 pub moved-length : (cs : List Carrier) (ds : List Drive) → length (allMoved cs ds) ≤ length cs
 unfolding allMoved
@@ -58,9 +59,7 @@ module _ (r : Row) (road : Road) where
   moved-lawful ahead (c ∷ cs) [] e = refl
   moved-lawful ahead (c ∷ cs) (z ∷ zs) e =
       let h = neither (unlawful road c) (anyOf (unlawful road) cs) e in
-      let rate = neither (badNumber (c .number) || tooFast road c || tooLong c) (badRate (c .rate)) (h .0) in
-      let own = neither (badNumber (c .number) || tooFast road c) (tooLong c) (rate .0) in
-      let here = neither (badNumber (c .number)) (tooFast road c) (own .0) in
+      let own = lawful-in road c (h .0) in
       let a = drive r (road .limit) ahead c z .acceleration in
-      let slow = drive-leads ahead c z (ltb-false (road .limit) (c .speed) (here .1)) .small in
-      rw (here .0, le-ltb (road .limit) (speedAfter (c .speed) a) slow, own .1, rate .1) (moved-lawful (leader c) cs zs (h .1))
+      let slow = drive-leads ahead c z (ltb-false (road .limit) (c .speed) (own .1)) .small in
+      rw (own .0, le-ltb (road .limit) (speedAfter (c .speed) a) slow, own .2, own .3) (moved-lawful (leader c) cs zs (h .1))
