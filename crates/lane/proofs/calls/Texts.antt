@@ -2,7 +2,7 @@
 use mathlib.Core.Path.{_≡_, refl, ap, _∙_}
 use mathlib.Core.Bool.{true, false}
 use mathlib.Core.List.{List, [], _∷_, _++_, append-assoc}
-use Prim.Native.Nat.{ℕ, _+_, _*_, _≤_, _<_}
+use Prim.Native.Nat.{ℕ, suc, _+_, _*_, _≤_, _<_}
 use native.Mathlib.Nat.{zero-add}
 use native.Mathlib.Omega.{arith}
 use lib.Dec.{ltb}
@@ -19,12 +19,12 @@ use Rattle.lane.specs.Limits.{longestText}
 use Rattle.lane.specs.State.{State}
 use Rattle.lane.specs.Surface.{Tables}
 use Rattle.lane.specs.Layout.{Words, stateWith, stateOf}
-use Rattle.lane.specs.Safety.{anyOf}
-use Rattle.lane.specs.Rules.{unlawful, pastEnd, broken}
+use Rattle.lane.specs.Rules.{broken}
+use Rattle.lane.specs.Calls.{none}
 use Rattle.lane.specs.Listing.{carKey, atKey, speedKey, lengthKey, brakeKey, carrierText, carriersText, laneText, textNo, textBytes}
 use Rattle.lane.proofs.lists.Lists.{slice-next, slice-past}
-use Rattle.lane.proofs.lists.Tests.{neither}
-use Rattle.lane.proofs.checks.Soundness.{SoundRoad, fit, sound}
+use Rattle.lane.proofs.checks.Soundness.{SoundRoad, sound}
+use Rattle.lane.proofs.Unbroken.{carriers-lawful}
 use Rattle.lane.proofs.calls.Answers.{counted-most}
 
 -- ---- lengths
@@ -39,20 +39,19 @@ unfolding carrierText
 length-carrier c = simp (length-append, length-line) (omega arith)
 
 -- the lines of a carrier have 31 bytes beside the digits, at most 5, 10, 4, 5 and 3
-carriers-length : (road : Road) → SoundRoad road → (cs : List Carrier) → anyOf (unlawful road) cs ≡ false → anyOf (pastEnd road) cs ≡ false
+carriers-length : (road : Road) → SoundRoad road → (cs : List Carrier)
+    → ((i : ℕ) → i < length cs → let c = getD cs i none in (c .number ≤ 65535) × (c .speed ≤ road .limit) × (c .length ≤ 65535) × (c .rate ≤ 255) × (c .position < road .end + c .length))
     → length (carriersText cs) ≤ 58 * length cs
-unfolding carriersText anyOf
-carriers-length road r [] e p = omega arith
-carriers-length road r (c ∷ cs) e p =
-    let here = neither (unlawful road c) (anyOf (unlawful road) cs) e in
-    let before = neither (pastEnd road c) (anyOf (pastEnd road) cs) p in
-    let f = fit road c (here .0) (before .0) in
+unfolding carriersText
+carriers-length road r [] h = omega arith
+carriers-length road r (c ∷ cs) h =
+    let f = h 0 (omega arith) in
     let number = decimal-at-most 5 (c .number) (omega arith) (omega arith) in
     let position = decimal-at-most 10 (c .position) (omega arith) (omega arith) in
     let speed = decimal-at-most 4 (c .speed) (omega arith) (omega arith) in
     let long = decimal-at-most 5 (c .length) (omega arith) (omega arith) in
     let rate = decimal-at-most 3 (c .rate) (omega arith) (omega arith) in
-    rw (length-append (carrierText c) (carriersText cs), length-carrier c) (omega (arith, carriers-length road r cs (here .1) (before .1)))
+    rw (length-append (carrierText c) (carriersText cs), length-carrier c) (omega (arith, carriers-length road r cs (λ i p. h (suc i) (omega arith))))
 
 -- so that no text is longer than the longest
 pub text-most : (l : Words) → broken (stateOf l) ≡ false → length (laneText (stateOf l)) ≤ longestText
@@ -63,7 +62,7 @@ text-most l b =
     rw (length-append, length-line) (omega (
       arith,
       decimal-at-most 2 (s .count) (omega arith) (omega (arith, h .count)),
-      carriers-length (s .road) (h .road) (s .carriers) (h .carriers .lawful) (h .carriers .before-end),
+      carriers-length (s .road) (h .road) (s .carriers) (λ i p. let v = carriers-lawful s b i p in (v .1, v .2, v .3, v .5, v .6)),
       counted-most l,
       h .count,
     ))

@@ -1,12 +1,12 @@
 -- The checks are made in the order of `enterNo`: check 21, the newcomer by itself, and then its place.
-use mathlib.Core.Path.{_≡_, refl, sym, _∙_}
+use mathlib.Core.Path.{_≡_, sym, _∙_}
 use mathlib.Core.Bool.{false}
 use native.Mathlib.Omega.{arith}
 use borrow.Author.Needs.{needs}
-use borrow.Author.Tests.{ne-eqb}
 use Rattle.lane.specs.Layout.{stateOf}
 use Rattle.lane.specs.Rules.{broken, newcomerNo}
 use Rattle.lane.specs.Calls.{enterNo}
+use Rattle.lane.proofs.EntryLaws.{entry-refused}
 use Rattle.lane.proofs.checks.Checks.{refused-as}
 use Rattle.lane.proofs.rules.check_enter.Statement.{statement}
 use Rattle.lane.proofs.rules.check_enter.Tie as tie
@@ -18,10 +18,10 @@ refused-requires : tie.Need-refused-requires
 refused-requires c κs = search needs
 
 returns : tie.Need-returns
-unfolding enterNo
 returns c =
     let a = c .before .before .before .args in
-    refused-as (enterNo (stateOf (a .l .now)) (a .c)) _ _ _ (rw (sym (c .before .before .breaks-rule .ensures) ∙ c .before .if1 .taken) refl) (λ e. omega arith) (c .refused .ensures)
+    let broken-lane = sym (c .before .before .breaks-rule .ensures) ∙ c .before .if1 .taken in
+    refused-as (enterNo (stateOf (a .l .now)) (a .c)) _ _ _ (entry-refused (stateOf (a .l .now)) (a .c) .0 broken-lane) (λ e. omega arith) (c .refused .ensures)
 
 unbroken : (c : tie.Else1) → broken (stateOf (c .before .before .args .l .now)) ≡ false
 unbroken c = sym (c .before .breaks-rule .ensures) ∙ c .if1 .left
@@ -40,12 +40,12 @@ refused-requires-2 : tie.Need-refused-requires-2
 refused-requires-2 c κs = search needs
 
 returns-2 : tie.Need-returns-2
-unfolding enterNo
 returns-2 c =
     let tested = c .before .before in
     let else = tested .before .before .before in
     let a = else .before .before .args in
-    refused-as (enterNo (stateOf (a .l .now)) (a .c)) _ _ _ (rw (unbroken else, newcomer tested, ne-eqb _ _ (c .before .if2 .taken)) refl) (c .before .if2 .taken) (c .refused2 .ensures)
+    let own = entry-refused (stateOf (a .l .now)) (a .c) .1 (unbroken else) (λ z. c .before .if2 .taken (sym (newcomer tested) ∙ z)) in
+    refused-as (enterNo (stateOf (a .l .now)) (a .c)) _ _ _ (own ∙ newcomer tested) (c .before .if2 .taken) (c .refused2 .ensures)
 
 find-place-requires : tie.Need-find-place-requires
 find-place-requires c κs = (unbroken (c .before .before .before .before), newcomer (c .before) ∙ c .if2 .left)
