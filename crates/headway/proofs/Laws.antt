@@ -3,7 +3,7 @@
 use mathlib.Core.Path.{_≡_, refl, sym, ap, _∙_}
 use mathlib.Core.Bool.{Bool, true, false, _&&_, and-eq-true-iff}
 use Prim.Native.Nat.{ℕ, zero, suc, _+_, _-_, _*_, _/_, _%_, _^_, _≤_, _<_, min}
-use native.Mathlib.Nat.{add-zero, le-refl, sub-self}
+use native.Mathlib.Nat.{add-zero, le-refl, le-trans, sub-self}
 use native.Mathlib.Omega.{arith}
 use borrow.Author.Tests.{lt-ltb, ltb-true}
 use lib.Dec.{ltb}
@@ -127,6 +127,14 @@ stopping-quotient = S.quotient
 -- "and c × S = v² + r(c − r)."
 pub stopping-product : (c v : ℕ) → 1 ≤ c → c * stoppingDistance c v ≡ v * v + (v % c) * (c - v % c)
 stopping-product = S.product
+
+-- it is at most the square of the speed, so at most that of a faster one
+pub stopping-most : (c v w : ℕ) → 1 ≤ c → v ≤ w → stoppingDistance c v ≤ w * w
+stopping-most c v w hc h = le-trans (S.mono {c = c} {d = c} {v = v} {w = w} (le-refl c) h) (S.at-most-square c w hc)
+
+-- from the lane's start a carrier comes to rest where it ends
+pub rest-from-start : (c v : ℕ) → 1 ≤ c → restOf c 0 v ≡ stoppingDistance c v
+rest-from-start c v hc = sym (rest-is c 0 v (λ z. omega arith)) ∙ omega arith
 
 -- ---- safe behind
 

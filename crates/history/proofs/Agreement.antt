@@ -9,8 +9,8 @@ use lib.Dec.{eqb}
 use lib.ListN.{length}
 use Rattle.lane.specs.State.{State}
 use Rattle.lane.specs.Layout.{Words, stateOf}
-use Rattle.lane.specs.Call.{Call, start-call, load-call, enter-call, leave-call, surface-call, cycle-call, read-call, text-call, callNo, callAnswer, callState, Kept}
-use Rattle.lane.proofs.CallLaws.{refused-changes-nothing, answer-number, Outcome, kept as leaves-kept, never-started, accepted-leaves, kept-started, kept-in-order, start-accepted, load-accepted, enter-accepted, leave-accepted, surface-accepted, read-accepted, text-accepted}
+use Rattle.lane.specs.Call.{Call, start-call, load-call, enter-call, leave-call, surface-call, cycle-call, read-call, opening-call, text-call, callNo, callAnswer, callState, Kept}
+use Rattle.lane.proofs.CallLaws.{refused-changes-nothing, answer-number, Outcome, kept as leaves-kept, never-started, accepted-leaves, kept-started, kept-in-order, start-accepted, load-accepted, enter-accepted, leave-accepted, surface-accepted, read-accepted, opening-accepted, text-accepted}
 use Rattle.lane.proofs.CycleLaws.{cycle-accepted, cycle-runs}
 use Rattle.history.specs.Book.{Book, begun, holding, taken, booked}
 use Rattle.history.specs.Claims.{InOrder, Kind, begins, loads, surfaces, runs, other, kindOf, CycleClaims}
@@ -72,6 +72,7 @@ accepted-books (cycle-call count wishes) s counted w z =
       (run-never-touching s wishes (wordOf x s) left run, run-replaces-crossing s wishes (wordOf x s) left run),
     )
 accepted-books (read-call number) s counted w z = (ap bookOf (read-accepted s number), tt)
+accepted-books (opening-call g n) s counted w z = (ap bookOf (opening-accepted s g n), tt)
 accepted-books (text-call buffer) s counted w z = (ap bookOf (text-accepted s buffer), tt)
 
 -- of a refused call nothing is claimed

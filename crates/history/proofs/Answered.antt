@@ -13,12 +13,15 @@ use Rattle.lane.specs.declared.Carrier.{Carrier}
 use Rattle.lane.specs.declared.Cycled.{Cycled}
 use Rattle.lane.specs.declared.Entered.{Entered}
 use Rattle.lane.specs.declared.Listed.{Listed}
+use Rattle.lane.specs.declared.Gap.{Gap}
+use Rattle.lane.specs.declared.Newcomer.{Newcomer}
+use Rattle.lane.specs.declared.Opening.{Opening}
 use Rattle.lane.specs.declared.ReadOut.{ReadOut}
 use Rattle.lane.specs.declared.Road.{Road}
 use Rattle.lane.specs.State.{State}
 use Rattle.lane.specs.Layout.{Words, stateOf, withCode}
 use Rattle.lane.specs.Calls.{namedCarrier}
-use Rattle.lane.specs.Call.{Call, start-call, load-call, enter-call, leave-call, surface-call, cycle-call, read-call, text-call, Answer, meaning, callAnswer, Gives, bare, entered, cycled, readOut, listed}
+use Rattle.lane.specs.Call.{Call, start-call, load-call, enter-call, leave-call, surface-call, cycle-call, read-call, opening-call, text-call, Answer, meaning, callAnswer, Gives, bare, entered, cycled, readOut, opening, listed}
 use Rattle.lane.proofs.start.Reads as start-reads
 use Rattle.lane.proofs.load.Reads as load-reads
 use Rattle.lane.proofs.enter.Reads as enter-reads
@@ -26,6 +29,7 @@ use Rattle.lane.proofs.leave.Reads as leave-reads
 use Rattle.lane.proofs.surface.Reads as surface-reads
 use Rattle.lane.proofs.cycle.Reads as cycle-reads
 use Rattle.lane.proofs.read.Reads as read-reads
+use Rattle.lane.proofs.find_opening.Reads as opening-reads
 use Rattle.lane.proofs.lane_text.Reads as text-reads
 use Rattle.lane.proofs.CallLaws.{answer-number}
 use Rattle.lane.proofs.Answerable.{gives-some, surface-words, returned, read-exact}
@@ -94,6 +98,10 @@ did (read-call number) l t =
     let x = read-call number in
     let r = returned x (stateOf l) in
     (gives-some x l .2 refl, lends (r .0, r .1, (reads-as x l refl (r .1), subst (Exact (stateOf l) number) (r .1) (read-exact (stateOf l) number))))
+did (opening-call g n) l t =
+    let x = opening-call g n in
+    let r = returned x (stateOf l) in
+    (gives-some x l .2 refl, lends (r .0, r .1, reads-as x l refl (r .1)))
 did (text-call buffer) l t =
     let x = text-call buffer in
     let r = returned x (stateOf l) in
@@ -114,7 +122,7 @@ every-list l (x ∷ xs) t =
 
 -- for every reference and every argument a contract asks nothing of its caller, and what it then says of an answer and of the lane left is a
 -- step; and every step may go before every list
-pub each-contract : (κ : Lfts 1) (κs : Lfts 2) (l : RefT Words) (m : Words) (road : Road) (c : Carrier) (n : ℕ) (ws : List Wish) (out : RefT (List ℕ))
+pub each-contract : (κ : Lfts 1) (κs : Lfts 2) (l : RefT Words) (m : Words) (road : Road) (c : Carrier) (n : ℕ) (ws : List Wish) (g : Gap) (newcomer : Newcomer) (out : RefT (List ℕ))
     → (start-reads.Asked κ (l, (road, (n, tt))) × ((no : ℕ) → start-reads.Learnt κ (l, (road, (n, tt))) no (at-last l m, (road, (n, tt))) → Did (start-call road n) (now l) (bare no []) m))
     × (load-reads.Asked κs (l, (out, tt)) × ((no : ℕ) → load-reads.Learnt κs (l, (out, tt)) no (at-last l m, (out, tt)) → Did (load-call (now out)) (now l) (bare no []) m))
     × (enter-reads.Asked κ (l, (c, tt)) × ((r : Entered) → enter-reads.Learnt κ (l, (c, tt)) r (at-last l m, (c, tt)) → Did (enter-call c) (now l) (entered r) m))
@@ -122,15 +130,17 @@ pub each-contract : (κ : Lfts 1) (κs : Lfts 2) (l : RefT Words) (m : Words) (r
     × (surface-reads.Asked κ (l, (n, tt)) × ((no : ℕ) → surface-reads.Learnt κ (l, (n, tt)) no (at-last l m, (n, tt)) → Did (surface-call n) (now l) (bare no []) m))
     × (cycle-reads.Asked κ (l, (n, (ws, tt))) × (length ws ≡ 64 → (r : Cycled) → cycle-reads.Learnt κ (l, (n, (ws, tt))) r (at-last l m, (n, (ws, tt))) → Did (cycle-call n ws) (now l) (cycled r) m))
     × (read-reads.Asked κ (l, (n, tt)) × ((r : ReadOut) → read-reads.Learnt κ (l, (n, tt)) r (l, (n, tt)) → Did (read-call n) (now l) (readOut r) (now l)))
+    × (opening-reads.Asked κ (l, (g, (newcomer, tt))) × ((r : Opening) → opening-reads.Learnt κ (l, (g, (newcomer, tt))) r (l, (g, (newcomer, tt))) → Did (opening-call g newcomer) (now l) (opening r) (now l)))
     × (text-reads.Asked κs (l, (out, tt)) × ((r : Listed) (bytes : List ℕ) → text-reads.Learnt κs (l, (out, tt)) r (l, (at-last out bytes, tt)) → Did (text-call (now out)) (now l) (listed r bytes) (now l)))
     × ((e : Event) (es : List Event) (d : Words) → Did (e .call) (now l) (e .answer) (e .left) → Ran (e .left) es d → Ran (now l) (e ∷ es) d)
-each-contract κ κs l m road c n ws out = (
+each-contract κ κs l m road c n ws g newcomer out = (
   (tt, λ no s. of-lane κ l (no, refl, s)),
   (tt, λ no s. of-both κs l out (no, refl, s)),
   (tt, λ r s. of-lane κ l (r, refl, s)),
   (tt, λ no s. of-lane κ l (no, refl, s)),
   (tt, λ no s. of-lane κ l (no, refl, s)),
   (tt, λ e r s. (e, of-lane κ l (r, refl, s))),
+  (tt, λ r s. (refl, of-lane κ l (r, refl, s))),
   (tt, λ r s. (refl, of-lane κ l (r, refl, s))),
   (tt, λ r bytes s. (refl, of-both κs l out (r, refl, s))),
   λ e es d h r. then h r,

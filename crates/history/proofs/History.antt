@@ -5,7 +5,7 @@ use native.Mathlib.Omega.{arith}
 use mathlib.Core.Path.{_≡_, sym, ap, subst}
 use mathlib.Core.List.{List}
 use Rattle.lane.specs.Layout.{Words, stateOf}
-use Rattle.lane.specs.Call.{Call, start-call, load-call, enter-call, leave-call, surface-call, cycle-call, read-call, text-call, Answer, Gives}
+use Rattle.lane.specs.Call.{Call, start-call, load-call, enter-call, leave-call, surface-call, cycle-call, read-call, opening-call, text-call, Answer, Gives}
 use Rattle.history.specs.Book.{Book, begun, booked}
 use Rattle.history.specs.Claims.{kindOf, Claims}
 use Rattle.history.specs.History.{Event, seen, bookOn, Did, Ran, none-yet, then, Wished, Chain, chain-end, chain-next, Throughout}
@@ -31,6 +31,7 @@ gives (leave-call number) l a m d = (given-of (d .before) (d .says .1) (d .says 
 gives (surface-call code) l a m d = (given-of (d .before) (d .says .1) (d .says .2 .0), tt)
 gives (cycle-call count wishes) l a m d = (given-of (d .1 .before) (d .1 .says .1) (d .1 .says .2), λ h. omega (arith, d .0))
 gives (read-call number) l a m d = (read-of (d .0) (d .1 .before) (d .1 .says .1) (d .1 .says .2 .0), tt)
+gives (opening-call g n) l a m d = (read-of (d .0) (d .1 .before) (d .1 .says .1) (d .1 .says .2), tt)
 gives (text-call buffer) l a m d =
     let g = d .1 .says .2 in
     (subst (λ (b : List ℕ). Gives (text-call b) l a m) (d .1 .lent) (read-of (d .0) (d .1 .before) (d .1 .says .1) g), tt)

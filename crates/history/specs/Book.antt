@@ -17,7 +17,7 @@ use Rattle.lane.specs.declared.Road.{Road}
 use Rattle.lane.specs.Surface.{Tables, rowIn}
 use Rattle.lane.specs.Layout.{Words, stateOf}
 use Rattle.lane.specs.Table.{tableIn, rowsLoaded}
-use Rattle.lane.specs.Call.{Call, start-call, load-call, enter-call, leave-call, surface-call, cycle-call, read-call, text-call}
+use Rattle.lane.specs.Call.{Call, start-call, load-call, enter-call, leave-call, surface-call, cycle-call, read-call, opening-call, text-call}
 
 -- "It is fed with each call with its arguments and, of the answers, only whether the call was refused and a cycle's word."
 pub record Seen : Type 0 where
@@ -104,8 +104,9 @@ taken (surface-call code) word b = surfacing b code
 taken (cycle-call count wishes) word b =
     holding b (drivenOn (b .road .end) (b .carriers) (drivenIn b word (b .carriers) wishes))
 taken (read-call number) word b = b
+taken (opening-call g n) word b = b
 taken (text-call buffer) word b = b
 
--- "Read, lane text and every refused call: nothing changes."
+-- "Read, lane text and every refused call: nothing changes."; T-07, of an opening: "the lane isn't changed"
 abbrev pub booked : Seen → Book → Book
 booked s b = cond (s .refused) b (taken (s .call) (s .word) b)

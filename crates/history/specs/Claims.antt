@@ -17,7 +17,7 @@ use Rattle.lane.specs.declared.Road.{Road}
 use Rattle.lane.specs.Surface.{rowOf, rowIn}
 use Rattle.lane.specs.Layout.{Words, stateOf}
 use Rattle.lane.specs.Calls.{none}
-use Rattle.lane.specs.Call.{Call, start-call, load-call, enter-call, leave-call, surface-call, cycle-call, read-call, text-call}
+use Rattle.lane.specs.Call.{Call, start-call, load-call, enter-call, leave-call, surface-call, cycle-call, read-call, opening-call, text-call}
 use Rattle.history.specs.Book.{Seen, Book, trimmedIn, guaranteedIn, drivenIn, booked}
 
 -- the carrier at a place: "Ahead means nearer the book's front; next ahead, the place just before."
@@ -87,6 +87,7 @@ kindOf (leave-call number) = other (leave-call number)
 kindOf (surface-call code) = surfaces code
 kindOf (cycle-call count ws) = runs count ws
 kindOf (read-call number) = other (read-call number)
+kindOf (opening-call g n) = other (opening-call g n)
 kindOf (text-call buffer) = other (text-call buffer)
 
 -- "A cycle run is one not refused." What is claimed of it, with the book as at its start

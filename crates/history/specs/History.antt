@@ -10,13 +10,14 @@ use lib.ListN.{length}
 use Rattle.lane.specs.declared.Cycled.{Cycled}
 use Rattle.lane.specs.declared.Entered.{Entered}
 use Rattle.lane.specs.declared.Listed.{Listed}
+use Rattle.lane.specs.declared.Opening.{Opening}
 use Rattle.lane.specs.declared.ReadOut.{ReadOut}
 use Rattle.lane.specs.declared.Road.{Road}
 use Rattle.lane.specs.Limits.{lastSurface}
 use Rattle.lane.specs.Surface.{rowOf, rowIn}
 use Rattle.lane.specs.Layout.{Words, stateOf}
 use Rattle.lane.specs.Table.{tableIn, rowsLoaded}
-use Rattle.lane.specs.Call.{Call, start-call, load-call, enter-call, leave-call, surface-call, cycle-call, read-call, text-call, Answer, bare, entered, cycled, readOut, listed, Gives}
+use Rattle.lane.specs.Call.{Call, start-call, load-call, enter-call, leave-call, surface-call, cycle-call, read-call, opening-call, text-call, Answer, bare, entered, cycled, readOut, opening, listed, Gives}
 use Rattle.lane.proofs.start.Reads as start-reads
 use Rattle.lane.proofs.load.Reads as load-reads
 use Rattle.lane.proofs.enter.Reads as enter-reads
@@ -24,6 +25,7 @@ use Rattle.lane.proofs.leave.Reads as leave-reads
 use Rattle.lane.proofs.surface.Reads as surface-reads
 use Rattle.lane.proofs.cycle.Reads as cycle-reads
 use Rattle.lane.proofs.read.Reads as read-reads
+use Rattle.lane.proofs.find_opening.Reads as opening-reads
 use Rattle.lane.proofs.lane_text.Reads as text-reads
 use Rattle.history.specs.Book.{Seen, Book, begun, booked}
 use Rattle.history.specs.Claims.{Kind, begins, loads, surfaces, runs, other, kindOf, carrierAt, SafeOn, Claims}
@@ -82,6 +84,8 @@ Did (cycle-call count wishes) l a m =
     × OfLane l (λ κs lane. (r : Cycled) × (a ≡ cycled r) × cycle-reads.Learnt κs (lane, (count, (wishes, tt))) r (at-last lane m, (count, (wishes, tt))))
 Did (read-call number) l a m =
     (m ≡ l) × OfLane l (λ κs lane. (r : ReadOut) × (a ≡ readOut r) × read-reads.Learnt κs (lane, (number, tt)) r (lane, (number, tt)))
+Did (opening-call g n) l a m =
+    (m ≡ l) × OfLane l (λ κs lane. (r : Opening) × (a ≡ opening r) × opening-reads.Learnt κs (lane, (g, (n, tt))) r (lane, (g, (n, tt))))
 Did (text-call buffer) l a m =
     (m ≡ l)
     × OfBoth l buffer (λ κs lane out. (r : Listed) × (a ≡ listed r (a .bytes)) × text-reads.Learnt κs (lane, (out, tt)) r (lane, (at-last out (a .bytes), tt)))

@@ -12,16 +12,19 @@ use Rattle.lane.specs.declared.Carrier.{Carrier}
 use Rattle.lane.specs.declared.Cycled.{Cycled}
 use Rattle.lane.specs.declared.Entered.{Entered}
 use Rattle.lane.specs.declared.Listed.{Listed}
+use Rattle.lane.specs.declared.Newcomer.{Newcomer}
+use Rattle.lane.specs.declared.Opening.{Opening}
 use Rattle.lane.specs.declared.ReadOut.{ReadOut}
 use Rattle.lane.specs.declared.Road.{Road}
 use Rattle.lane.specs.State.{State}
 use Rattle.lane.specs.Layout.{Words, stateOf}
-use Rattle.lane.specs.Call.{Call, start-call, load-call, enter-call, leave-call, surface-call, cycle-call, read-call, text-call, Answer, bare, callAnswer, entered, cycled, readOut, listed}
+use Rattle.lane.specs.Call.{Call, start-call, load-call, enter-call, leave-call, surface-call, cycle-call, read-call, opening-call, text-call, Answer, bare, callAnswer, entered, cycled, readOut, opening, listed}
 use Rattle.lane.specs.Given.{wishesNo, wishesGiven}
 use Rattle.console.specs.declared.Stepped.{Stepped}
 use Rattle.console.specs.Blocks.{Parsed, parsed, malformed}
 use Rattle.console.specs.History.{blockRun, callsWith}
 use Rattle.history.specs.History.{Event, OfLane, OfBoth}
+use Rattle.host.specs.Gaps.{gapGiven}
 use Rattle.host.proofs.rondavitse_empty.Reads as empty-reads
 use Rattle.host.proofs.rondavitse_start.Reads as start-reads
 use Rattle.host.proofs.rondavitse_load.Reads as load-reads
@@ -30,6 +33,7 @@ use Rattle.host.proofs.rondavitse_leave.Reads as leave-reads
 use Rattle.host.proofs.rondavitse_surface.Reads as surface-reads
 use Rattle.host.proofs.rondavitse_cycle.Reads as cycle-reads
 use Rattle.host.proofs.rondavitse_read.Reads as read-reads
+use Rattle.host.proofs.rondavitse_find_opening.Reads as opening-reads
 use Rattle.host.proofs.rondavitse_lane_text.Reads as text-reads
 use Rattle.host.proofs.rondavitse_step.Reads as step-reads
 
@@ -42,6 +46,7 @@ pub data HostCall : Type 0 where
   surfaces : (code : ℕ) → HostCall
   cycles : (count : ℕ) → (sorts values : List ℕ) → HostCall
   reads : (number : ℕ) → HostCall
+  finds : (head number : ℕ) → Newcomer → HostCall
   lists : (buffer : List ℕ) → HostCall
   steps : (input : List ℕ) → (at : ℕ) → (buffer : List ℕ) → HostCall
 
@@ -54,6 +59,7 @@ callsMade (leaves number) = leave-call number ∷ []
 callsMade (surfaces code) = surface-call code ∷ []
 callsMade (cycles count sorts values) = cond (eqb (wishesNo count sorts values) 0) (cycle-call count (wishesGiven count sorts values) ∷ []) []
 callsMade (reads number) = read-call number ∷ []
+callsMade (finds head number n) = opening-call (gapGiven head number) n ∷ []
 callsMade (lists buffer) = text-call buffer ∷ []
 callsMade (steps input at buffer) = callsWith (blockRun buffer (drop at input)) (λ used. [])
 
@@ -105,6 +111,8 @@ HostDid (surfaces code) l a m =
 HostDid (cycles count sorts values) l a m = (r : Cycled) × (a ≡ cycled r) × Cycles l count sorts values r m
 HostDid (reads number) l a m =
     (m ≡ l) × OfLane l (λ κs lane. (r : ReadOut) × (a ≡ readOut r) × read-reads.Learnt κs (lane, (number, tt)) r (lane, (number, tt)))
+HostDid (finds head number n) l a m =
+    (m ≡ l) × OfLane l (λ κs lane. (r : Opening) × (a ≡ opening r) × opening-reads.Learnt κs (lane, (head, (number, (n, tt)))) r (lane, (head, (number, (n, tt)))))
 HostDid (lists buffer) l a m =
     (m ≡ l)
     × OfBoth l buffer (λ κs lane out. (r : Listed) × (a ≡ listed r (a .bytes)) × text-reads.Learnt κs (lane, (out, tt)) r (lane, (at-last out (a .bytes), tt)))

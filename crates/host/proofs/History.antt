@@ -20,7 +20,7 @@ use Rattle.history.proofs.Changes.{chain-surface-changes}
 use Rattle.console.specs.Blocks.{Parsed, parsed, malformed}
 use Rattle.console.specs.History.{blockRun, eventsOf, callsWith}
 use Rattle.console.proofs.Calls.{step-chain}
-use Rattle.host.proofs.Calls.{HostCall, starts, loads, enters, leaves, surfaces, cycles, reads, lists, steps, callsMade, eventsMade, stepAnswer, HostDid, HostRan, nothing-yet, call, allMade, Emptied}
+use Rattle.host.proofs.Calls.{HostCall, starts, loads, enters, leaves, surfaces, cycles, reads, finds, lists, steps, callsMade, eventsMade, stepAnswer, HostDid, HostRan, nothing-yet, call, allMade, Emptied}
 
 -- a cycle by its wishes: one whose wishes cannot be made is no call
 one-cycle : (count : ℕ) (sorts values : List ℕ) {l m d : Words} {a : Answer} {fs : List Event} → HostDid (cycles count sorts values) l a m → Chain m fs d
@@ -52,6 +52,7 @@ one-call (leaves number) a h c = chain-next (given-of (h .before) (h .says .1) (
 one-call (surfaces code) a h c = chain-next (given-of (h .before) (h .says .1) (h .says .2 .0)) tt c
 one-call (cycles count sorts values) a h c = one-cycle count sorts values h c
 one-call (reads number) a h c = chain-next (read-of (h .0) (h .1 .before) (h .1 .says .1) (h .1 .says .2 .0)) tt c
+one-call (finds head number n) a h c = chain-next (read-of (h .0) (h .1 .before) (h .1 .says .1) (h .1 .says .2)) tt c
 one-call (lists buffer) {l} {m} a h c =
     let g = read-of (h .0) (h .1 .before) (h .1 .says .1) (h .1 .says .2) in
     chain-next (subst (λ (b : List ℕ). Gives (text-call b) l a m) (h .1 .lent) g) tt c

@@ -6,16 +6,20 @@ ghost use lib.Ieee.Exact.{HasValue};
 ghost use lib.ListN.{drop};
 ghost use Rattle.lane.specs.Layout.{stateOf, withCode, emptyWords};
 ghost use Rattle.lane.specs.Calls.{namedCarrier};
-ghost use Rattle.lane.specs.Call.{load-call, start-call, enter-call, leave-call, surface-call, read-call, text-call, bare, entered, cycled, readOut, listed, Gives};
+ghost use Rattle.lane.specs.Call.{load-call, start-call, enter-call, leave-call, surface-call, read-call, opening-call, text-call, bare, entered, cycled, readOut, opening, listed, Gives};
 ghost use Rattle.lane.specs.Given.{GivesWith};
 ghost use Rattle.console.specs.Program.{stepInto, StepGives};
+ghost use Rattle.host.specs.Gaps.{gapGiven};
 ghost use Rattle.host.specs.Version.{version};
 use console::Stepped;
 use lane::Carrier;
 use lane::Cycled;
 use lane::Entered;
+use lane::Gap;
 use lane::Lane;
 use lane::Listed;
+use lane::Newcomer;
+use lane::Opening;
 use lane::ReadOut;
 use lane::Road;
 
@@ -24,7 +28,7 @@ use lane::Road;
 pub extern "C" fn rondavitse_version() -> u32
     ensures { λ r. ⌜ r ≡ version ⌝ }
 {
-    6
+    7
 }
 
 #[no_mangle]
@@ -78,6 +82,30 @@ pub extern "C" fn rondavitse_read(l: &Lane, number: u64) -> ReadOut
     ensures exact { λ r. ⌜ (r .no ≡ 0 → HasValue (r .reading .position) false (namedCarrier (stateOf (now (l .entry))) number .position) 2048 × HasValue (r .reading .speed) false (namedCarrier (stateOf (now (l .entry))) number .speed) 128) ⌝ }
 {
     lane::read(l, number)
+}
+
+// An exported function takes no enum: the gap is a flag for the head, and a number.
+fn gap_given(head: u64, number: u64) -> Gap
+    ensures { λ r. ⌜ r ≡ gapGiven head number ⌝ }
+{
+    if head == 0 {
+        Gap::Behind(number)
+    } else {
+        Gap::AheadOfAll
+    }
+}
+
+// Where a newcomer could enter: directly behind the carrier of that number, or where `head` is not 0 ahead of all.
+#[no_mangle]
+pub extern "C" fn rondavitse_find_opening(
+    l: &Lane,
+    head: u64,
+    number: u64,
+    newcomer: Newcomer,
+) -> Opening
+    ensures { λ r. ⌜ Gives (opening-call (gapGiven head number) newcomer) (now (l .entry)) (opening r) (now (l .entry)) ⌝ }
+{
+    lane::find_opening(l, gap_given(head, number), newcomer)
 }
 
 #[no_mangle]

@@ -13,12 +13,13 @@ use Rattle.lane.specs.declared.Carrier.{Carrier}
 use Rattle.lane.specs.declared.Cycled.{Cycled}
 use Rattle.lane.specs.declared.Entered.{Entered}
 use Rattle.lane.specs.declared.Listed.{Listed}
+use Rattle.lane.specs.declared.Opening.{Opening}
 use Rattle.lane.specs.declared.ReadOut.{ReadOut}
 use Rattle.lane.specs.Limits.{mostCarriers}
 use Rattle.lane.specs.State.{State}
 use Rattle.lane.specs.Layout.{Words, stateOf}
 use Rattle.lane.specs.Calls.{none, enterNo, namedNo, namedCarrier, cycleNo, cycleGone}
-use Rattle.lane.specs.Call.{Call, start-call, load-call, enter-call, leave-call, surface-call, cycle-call, read-call, text-call, Answer, bare, placed, run, shown, told, callNo, lentTo, acceptedAnswer, callAnswer, entered, cycled, readOut, listed}
+use Rattle.lane.specs.Call.{Call, start-call, load-call, enter-call, leave-call, surface-call, cycle-call, read-call, opening-call, text-call, Answer, bare, placed, run, shown, spanned, told, callNo, lentTo, acceptedAnswer, callAnswer, entered, cycled, readOut, opening, listed}
 use Rattle.lane.proofs.checks.Soundness.{fit-at, fit-narrow}
 use Rattle.lane.proofs.calls.Answers.{accepted-answers, answer-number, counted-most, enter-tells, walk-le, named-tells, ready-tells, cycle-tells}
 pub use Rattle.lane.proofs.calls.Left.{gives-some, surface-words}
@@ -32,6 +33,7 @@ Returned (leave-call number) a = (no : ℕ) × (a ≡ bare no [])
 Returned (surface-call code) a = (no : ℕ) × (a ≡ bare no [])
 Returned (cycle-call count ws) a = (r : Cycled) × (a ≡ cycled r)
 Returned (read-call number) a = (r : ReadOut) × (a ≡ readOut r)
+Returned (opening-call g n) a = (r : Opening) × (a ≡ opening r)
 Returned (text-call buffer) a = (r : Listed) × (a ≡ listed r (a .bytes))
 
 -- what keeps the accepted answer and the refused one as they are keeps the call's
@@ -71,6 +73,10 @@ returned (read-call number) s =
     let x = read-call number in
     let a = callAnswer x s in
     (record { no = a .number; reading = a .reading }, kept-by x s (λ a. shown (a .number) (a .reading)) refl refl)
+returned (opening-call g n) s =
+    let x = opening-call g n in
+    let a = callAnswer x s .span in
+    (record { no = callAnswer x s .number; exists = a .exists; lowest = a .lowest; highest = a .highest }, kept-by x s (λ a. spanned (a .number) (a .span)) refl refl)
 returned (text-call buffer) s =
     let x = text-call buffer in
     let a = callAnswer x s in

@@ -9,6 +9,9 @@ use lib.Dec.{eqb, leb, ltb}
 use lib.ListN.{length, getD, take}
 use Rattle.wish.specs.declared.Wish.{Wish}
 use Rattle.lane.specs.declared.Carrier.{Carrier}
+use Rattle.lane.specs.declared.Gap.{Gap}
+use Rattle.lane.specs.declared.Gap.the-variants.{Behind, AheadOfAll}
+use Rattle.lane.specs.declared.Newcomer.{Newcomer}
 use Rattle.lane.specs.declared.Road.{Road}
 use Rattle.lane.specs.declared.Row.{Row}
 use Rattle.lane.specs.Limits.{farthestEnd, fastest, lastCycle}
@@ -16,14 +19,15 @@ use Rattle.lane.specs.Surface.{houseRows, rowOf, soundRow, unsoundBelow,
 use Rattle.lane.specs.Layout.{tableFrom, stateOf, emptyWords}
 use Rattle.lane.specs.State.{State}
 use Rattle.lane.specs.Safety.{leader, safeWith, laneSafe, anyOf, firstPlace, numbered}
-use Rattle.lane.specs.Rules.{outsideOf, badNumber, tooFast, tooLong, badRate, roadNo, newcomerNo, broken}
+use Rattle.lane.specs.Rules.{outsideOf, badNumber, tooFast, tooLong, badRate, roadNo, valuesNo, newcomerNo, broken}
 use Rattle.lane.specs.Wishes.{anyOutside}
 use Rattle.lane.specs.Table.{tableIn, badTable, rowsLoaded, loadNo, loadedState}
 use Rattle.lane.specs.Calls.{none, withCarriers, startNo, begunState, aheadOf, walk, gapNo, placeNo, enterNo, insertAt, enteredState, namedNo, placeOf, removeAt, leftState, readyNo, cycleNo, surfaceNo, surfacedState}
+use Rattle.lane.specs.Opening.{newcomerAt, gapNamedNo, openingNo}
 use Rattle.lane.specs.Listing.{laneText, textNo}
-use Rattle.lane.specs.Call.{Call, start-call, load-call, enter-call, leave-call, surface-call, cycle-call, read-call, text-call, Meaning, meaning, callNo, acceptedState, callState, Kept}
+use Rattle.lane.specs.Call.{Call, start-call, load-call, enter-call, leave-call, surface-call, cycle-call, read-call, opening-call, text-call, Meaning, meaning, callNo, acceptedState, callState, Kept}
 use Rattle.lane.proofs.lists.Passed.{both}
-use Rattle.lane.proofs.calls.Answers.{accepted-changes, accepted-sound, load-tells}
+use Rattle.lane.proofs.calls.Answers.{accepted-changes, accepted-sound, load-tells, opening-tells}
 use Rattle.lane.proofs.checks.Records.{code-by-code}
 use Rattle.lane.proofs.checks.Soundness.{Sound, sound, sound-holds}
 use Rattle.lane.proofs.calls.Order.{lane-order}
@@ -86,6 +90,9 @@ load-check s text = by-test (s .started && broken s) refl
     by-test true e = rw (both (s .started) (broken s) e .1) refl
     by-test false e = one-of (broken s) (badTable (tableIn text)) 31 _ refl (last-check (broken s) (s .started && ltb 0 (s .count)) 32 refl)
 
+values-check : (b : Bool) (road : Road) (c : Carrier) → lawfulNo b (valuesNo road c) ≡ true
+values-check b road c = one-of b (tooFast road c) 6 _ refl (one-of b (tooLong c) 33 _ refl (last-check b (badRate (c .rate)) 35 refl))
+
 enter-check : (s : State) (c : Carrier) → lawfulNo (broken s) (enterNo s c) ≡ true
 unfolding enterNo newcomerNo placeNo gapNo
 enter-check s c =
@@ -99,7 +106,7 @@ enter-check s c =
     (one-of b (not (safeWith r (aheadOf place (s .carriers)) c)) 25 _ refl
     (last-check b (ltb place (length (s .carriers)) && not (safeWith r (leader c) (getD (s .carriers) place none))) 26 refl))))
     (one-of b (badNumber (c .number)) 4 _ refl
-    (one-of b (leb (s .road .end) (c .position)) 5 _ refl (one-of b (tooFast (s .road) c) 6 _ refl (one-of b (tooLong c) 33 _ refl (last-check b (badRate (c .rate)) 35 refl))))))
+    (one-of b (leb (s .road .end) (c .position)) 5 _ refl (values-check b (s .road) c))))
 
 surface-check : (s : State) (code : ℕ) → lawfulNo (broken s) (surfaceNo s code) ≡ true
 unfolding surfaceNo
@@ -117,6 +124,15 @@ cycle-check s count ws =
 text-check : (s : State) (buffer : List ℕ) → lawfulNo (broken s) (textNo s buffer) ≡ true
 unfolding textNo
 text-check s buffer = let b = broken s in state-check b _ (last-check b (ltb (length buffer) (length (laneText s))) 9 refl)
+
+gap-check : (s : State) (g : Gap) → lawfulNo (broken s) (gapNamedNo s g) ≡ true
+unfolding gapNamedNo
+gap-check s (Behind number) = named-check s number
+gap-check s AheadOfAll = state-check (broken s) 0 refl
+
+opening-check : (s : State) (g : Gap) (n : Newcomer) → lawfulNo (broken s) (openingNo s g n) ≡ true
+unfolding openingNo
+opening-check s g n = one-of (broken s) (eqb (gapNamedNo s g) 0) _ _ (values-check (broken s) (s .road) (newcomerAt n 0)) (gap-check s g)
 
 -- what an accepted call leaves: a state that breaks no rule, or that of a lane never started, with the carriers that it had
 pub data Outcome (s t : State) : Type 0 where
@@ -149,6 +165,8 @@ lawful (surface-call code) = record { leaves = λ s counted e. kept (surface-kee
 lawful (cycle-call count ws) = record { leaves = λ s counted e. kept (cycle-keeps s counted count ws e); numbered = λ s. cycle-check s count ws }
 lawful (read-call number) =
     record { leaves = λ s counted e. kept (unchanged s counted (accepted-sound s _ e)); numbered = λ s. named-check s number }
+lawful (opening-call g n) =
+    record { leaves = λ s counted e. kept (unchanged s counted (opening-tells s g n e .sound)); numbered = λ s. opening-check s g n }
 lawful (text-call buffer) =
     record { leaves = λ s counted e. kept (unchanged s counted (accepted-sound s _ e)); numbered = λ s. text-check s buffer }
 
@@ -259,7 +277,7 @@ pub surface-accepted : (s : State) (code : ℕ) → surfaceNo s code ≡ 0
 unfolding surfacedState
 surface-accepted s code e = accepted-changes (surface-call code) s e
 
--- read and lane text change nothing, refused or not
+-- read, opening and lane text change nothing, refused or not
 unchanging : (x : Call) (s : State) → acceptedState x s ≡ s → callState x s ≡ s
 unfolding callState
 unchanging x s e = rw e (same (eqb (callNo x s) 0))
@@ -270,6 +288,9 @@ unchanging x s e = rw e (same (eqb (callNo x s) 0))
 
 pub read-accepted : (s : State) (number : ℕ) → callState (read-call number) s ≡ s
 read-accepted s number = unchanging (read-call number) s refl
+
+pub opening-accepted : (s : State) (g : Gap) (n : Newcomer) → callState (opening-call g n) s ≡ s
+opening-accepted s g n = unchanging (opening-call g n) s refl
 
 pub text-accepted : (s : State) (buffer : List ℕ) → callState (text-call buffer) s ≡ s
 text-accepted s buffer = unchanging (text-call buffer) s refl

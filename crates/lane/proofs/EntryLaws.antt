@@ -75,7 +75,7 @@ module _ (r : Row) (a c : Carrier) where
   unfolding safeWith
   safe-numbers e = let s = safe-says _ _ _ _ _ _ e in (s .below, s .stops-below)
 
-  numbers-unsafe : ¬ (SafeBy r a c) → safeWith r (leader a) c ≡ false
+  pub numbers-unsafe : ¬ (SafeBy r a c) → safeWith r (leader a) c ≡ false
   numbers-unsafe h = by-test (safeWith r (leader a) c) refl
     where
       by-test : (t : Bool) → safeWith r (leader a) c ≡ t → t ≡ false

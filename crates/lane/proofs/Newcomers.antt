@@ -7,13 +7,21 @@ use borrow.Author.Tests.{le-ltb, lt-leb, ltb-false, leb-false}
 use lib.Dec.{leb, ltb}
 use Rattle.lane.specs.declared.Carrier.{Carrier}
 use Rattle.lane.specs.declared.Road.{Road}
-use Rattle.lane.specs.Rules.{outsideOf, badNumber, tooFast, tooLong, badRate, newcomerNo}
+use Rattle.lane.specs.Rules.{outsideOf, badNumber, tooFast, tooLong, badRate, valuesNo, newcomerNo}
 use Rattle.lane.proofs.lists.Passed.{passed}
 use Rattle.lane.proofs.lists.Tests.{neither}
 
 -- ends included
 pub within : (low high n : ℕ) → outsideOf low high n ≡ false → (low ≤ n) × (n ≤ high)
 within low high n e = let t = neither (ltb n low) (ltb high n) e in (ltb-false n low (t .0), ltb-false high n (t .1))
+
+-- who passes 6, 33 and 35
+pub values-are : (road : Road) (c : Carrier) → valuesNo road c ≡ 0 → (c .speed ≤ road .limit) × (c .length ≤ 65535) × (1 ≤ c .rate) × (c .rate ≤ 255)
+values-are road c e =
+    let speed = passed (tooFast road c) 5 _ e in
+    let length = passed (tooLong c) 32 _ (speed .1) in
+    let rates = within 1 255 (c .rate) (passed (badRate (c .rate)) 34 0 (length .1) .0) in
+    (ltb-false (road .limit) (c .speed) (speed .0), ltb-false 65535 (c .length) (length .0), rates .0, rates .1)
 
 pub record Newcomer (road : Road) (c : Carrier) : Type 0 where
   pub number-least : 1 ≤ c .number
@@ -30,19 +38,16 @@ unfolding newcomerNo
 newcomer-is road c e =
     let number = passed (badNumber (c .number)) 3 _ e in
     let position = passed (leb (road .end) (c .position)) 4 _ (number .1) in
-    let speed = passed (tooFast road c) 5 _ (position .1) in
-    let length = passed (tooLong c) 32 _ (speed .1) in
-    let rate = passed (badRate (c .rate)) 34 0 (length .1) in
     let numbers = within 1 65535 (c .number) (number .0) in
-    let rates = within 1 255 (c .rate) (rate .0) in
+    let values = values-are road c (position .1) in
     record {
       number-least = numbers .0;
       number-most = numbers .1;
       front-before-end = leb-false (road .end) (c .position) (position .0);
-      slow = ltb-false (road .limit) (c .speed) (speed .0);
-      short = ltb-false 65535 (c .length) (length .0);
-      rate-least = rates .0;
-      rate-most = rates .1;
+      slow = values .0;
+      short = values .1;
+      rate-least = values .2;
+      rate-most = values .3;
     }
 
 -- and every such one passes them, however far its tail lies before the start

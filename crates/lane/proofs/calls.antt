@@ -5,5 +5,6 @@ pub mod Runs
 pub mod Entering
 pub mod Leaving
 pub mod Order
+pub mod Openings
 pub mod Keeps
 pub mod Left

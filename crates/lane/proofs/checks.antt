@@ -7,3 +7,4 @@ pub mod Soundness
 pub mod Faults
 pub mod Gaps
 pub mod Checks
+pub mod Spans

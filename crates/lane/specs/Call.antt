@@ -10,7 +10,10 @@ use Rattle.wish.specs.declared.Wish.{Wish}
 use Rattle.lane.specs.declared.Carrier.{Carrier}
 use Rattle.lane.specs.declared.Cycled.{Cycled}
 use Rattle.lane.specs.declared.Entered.{Entered}
+use Rattle.lane.specs.declared.Gap.{Gap}
 use Rattle.lane.specs.declared.Listed.{Listed}
+use Rattle.lane.specs.declared.Newcomer.{Newcomer}
+use Rattle.lane.specs.declared.Opening.{Opening}
 use Rattle.lane.specs.declared.ReadOut.{ReadOut}
 use Rattle.lane.specs.declared.Road.{Road}
 use Rattle.lane.specs.State.{State}
@@ -18,6 +21,7 @@ use Rattle.lane.specs.Layout.{Words, stateOf}
 use Rattle.lane.specs.Rules.{broken}
 use Rattle.lane.specs.Table.{loadNo, loadedState}
 use Rattle.lane.specs.Calls.{ifAccepted, startNo, begunState, walk, enterNo, enteredState, namedNo, leftState, namedReading, cycleNo, cycleWord, cycleReplaced, cycleGone, cycledState, surfaceNo, surfacedState}
+use Rattle.lane.specs.Opening.{Span, nowhere, openingIn, openingNo}
 use Rattle.lane.specs.Listing.{laneText, textNo, textBytes}
 
 -- a call with its arguments, but for the lane; of the lane text, the bytes of the lent buffer before the call
@@ -29,6 +33,7 @@ pub data Call : Type 0 where
   surface-call : (code : ℕ) → Call
   cycle-call : (count : ℕ) → (wishes : List Wish) → Call
   read-call : (number : ℕ) → Call
+  opening-call : Gap → Newcomer → Call
   text-call : (buffer : List ℕ) → Call
 
 -- what a call answers: its number, and values that are zero where it has none; the bytes of the lent buffer after it, none where it has none
@@ -39,29 +44,34 @@ pub record Answer : Type 0 where
   pub replaced : ℕ
   pub gone : ℕ
   pub reading : Reading
+  pub span : Span
   pub long : ℕ
   pub bytes : List ℕ
 
 -- an answer with no value
 abbrev pub bare : (number : ℕ) → (bytes : List ℕ) → Answer
 bare number bytes =
-    record { number = number; place = 0; word = 0; replaced = 0; gone = 0; reading = readingOf 0 0; long = 0; bytes = bytes }
+    record { number = number; place = 0; word = 0; replaced = 0; gone = 0; reading = readingOf 0 0; span = nowhere; long = 0; bytes = bytes }
 
 abbrev pub placed : (number place : ℕ) → Answer
 placed number place =
-    record { number = number; place = place; word = 0; replaced = 0; gone = 0; reading = readingOf 0 0; long = 0; bytes = [] }
+    record { number = number; place = place; word = 0; replaced = 0; gone = 0; reading = readingOf 0 0; span = nowhere; long = 0; bytes = [] }
 
 abbrev pub run : (number word replaced gone : ℕ) → Answer
 run number word replaced gone =
-    record { number = number; place = 0; word = word; replaced = replaced; gone = gone; reading = readingOf 0 0; long = 0; bytes = [] }
+    record { number = number; place = 0; word = word; replaced = replaced; gone = gone; reading = readingOf 0 0; span = nowhere; long = 0; bytes = [] }
 
 abbrev pub shown : (number : ℕ) → Reading → Answer
 shown number reading =
-    record { number = number; place = 0; word = 0; replaced = 0; gone = 0; reading = reading; long = 0; bytes = [] }
+    record { number = number; place = 0; word = 0; replaced = 0; gone = 0; reading = reading; span = nowhere; long = 0; bytes = [] }
+
+abbrev pub spanned : (number : ℕ) → Span → Answer
+spanned number span =
+    record { number = number; place = 0; word = 0; replaced = 0; gone = 0; reading = readingOf 0 0; span = span; long = 0; bytes = [] }
 
 abbrev pub told : (number long : ℕ) → (bytes : List ℕ) → Answer
 told number long bytes =
-    record { number = number; place = 0; word = 0; replaced = 0; gone = 0; reading = readingOf 0 0; long = long; bytes = bytes }
+    record { number = number; place = 0; word = 0; replaced = 0; gone = 0; reading = readingOf 0 0; span = nowhere; long = long; bytes = bytes }
 
 -- what a call means: the number of its refusal, 0 where it is accepted; the state after it and what it answers, where it is accepted; the
 -- bytes of the lent buffer before it, where it has one; and whether it only reads, so that it leaves the very lane, every word of it as it was
@@ -72,8 +82,8 @@ pub record Meaning : Type 0 where
   pub lent : List ℕ
   pub reads : Bool
 
--- an entry answers the place where the walk ends, a cycle word, replaced and gone, a read two doubles, the lane text its length and bytes; read
--- and lane text change nothing
+-- an entry answers the place where the walk ends, a cycle word, replaced and gone, a read two doubles, an opening its positions, the lane text its
+-- length and bytes; read, opening and lane text change nothing: T-07, "the lane isn't changed"
 abbrev pub meaning : Call → Meaning
 meaning (start-call road first) =
     record { number = λ s. startNo s road; after = λ s. begunState s road first; answer = λ s. bare 0 []; lent = []; reads = false }
@@ -101,6 +111,8 @@ meaning (cycle-call count ws) =
     }
 meaning (read-call number) =
     record { number = λ s. namedNo s number; after = λ s. s; answer = λ s. shown 0 (namedReading s number); lent = []; reads = true }
+meaning (opening-call g n) =
+    record { number = λ s. openingNo s g n; after = λ s. s; answer = λ s. spanned 0 (openingIn s g n); lent = []; reads = true }
 meaning (text-call buffer) =
     record {
       number = λ s. textNo s buffer;
@@ -130,6 +142,7 @@ acceptedAnswer x s =
       replaced = a .replaced;
       gone = a .gone;
       reading = a .reading;
+      span = a .span;
       long = a .long;
       bytes = a .bytes;
     }
@@ -157,6 +170,9 @@ cycled r = run (r .no) (r .word) (r .replaced) (r .gone)
 
 abbrev pub readOut : ReadOut → Answer
 readOut r = shown (r .no) (r .reading)
+
+abbrev pub opening : Opening → Answer
+opening r = spanned (r .no) (record { exists = r .exists; lowest = r .lowest; highest = r .highest })
 
 abbrev pub listed : Listed → (bytes : List ℕ) → Answer
 listed r bytes = told (r .no) (r .length) bytes

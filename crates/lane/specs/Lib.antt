@@ -8,6 +8,7 @@ pub mod Rules
 pub mod Wishes
 pub mod Table
 pub mod Calls
+pub mod Opening
 pub mod Listing
 pub mod Call
 pub mod Given

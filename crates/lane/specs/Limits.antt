@@ -27,6 +27,10 @@ highestNumber = 65535
 abbrev pub longestCarrier : ℕ
 longestCarrier = 65535
 
+-- "at, end, speed, limit, surface: 32 bits": as many positions as can be named
+abbrev pub positions : ℕ
+positions = 4294967296
+
 abbrev pub mostCarriers : ℕ
 mostCarriers = 64
 

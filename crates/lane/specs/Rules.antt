@@ -63,10 +63,11 @@ broken s =
     || ltb mostCarriers (s .count)
     || faulty (rowIn (s .tables) (s .road)) (s .road) (s .carriers)
 
--- a newcomer's own values: "4 carrier number 0; 5 position at or past the end; 6 speed above the limit", 5 of its front; T-03: "33 length too
--- large, after 6"; T-06: "35 own rate outside its range, after 33"
+-- a newcomer's speed, length and own rate: "6 speed above the limit"; T-03: "33 length too large, after 6"; T-06: "35 own rate outside its range,
+-- after 33"
+abbrev pub valuesNo : Road → Carrier → ℕ
+valuesNo road c = cond (tooFast road c) 6 (cond (tooLong c) 33 (cond (badRate (c .rate)) 35 0))
+
+-- all its own values: "4 carrier number 0; 5 position at or past the end", 5 of its front, then these
 unfoldable pub newcomerNo : Road → Carrier → ℕ
-newcomerNo road c =
-    cond (badNumber (c .number)) 4
-    (cond (leb (road .end) (c .position)) 5
-    (cond (tooFast road c) 6 (cond (tooLong c) 33 (cond (badRate (c .rate)) 35 0))))
+newcomerNo road c = cond (badNumber (c .number)) 4 (cond (leb (road .end) (c .position)) 5 (valuesNo road c))

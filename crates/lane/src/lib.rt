@@ -1,12 +1,12 @@
-// The lane's calls: load, start, enter, leave, surface, cycle, read, lane text; and `find`, by which they look a carrier number up. A lane is lent and
-// changed in place. `no` is 0 where a call is accepted, else the number of its refusal, with every value zero and every word of the lane as it was.
+// The lane's calls: load, start, enter, leave, surface, cycle, read, find an opening, lane text; and `find`, by which they look a carrier number up. A
+// lane is lent and changed in place. `no` is 0 where a call is accepted, else the number of its refusal, with every value zero and every word of the lane as it was.
 ghost use mathlib.Core.Path.{_≡_};
 ghost use mathlib.Core.Bool.{false};
 ghost use mathlib.Core.List.{[]};
 ghost use lib.Ieee.Exact.{HasValue};
 ghost use Rattle.lane.specs.Layout.{stateOf, withCode, emptyWords};
 ghost use Rattle.lane.specs.Calls.{namedCarrier};
-ghost use Rattle.lane.specs.Call.{load-call, start-call, enter-call, leave-call, surface-call, cycle-call, read-call, text-call, bare, entered, cycled, readOut, listed, Gives};
+ghost use Rattle.lane.specs.Call.{load-call, start-call, enter-call, leave-call, surface-call, cycle-call, read-call, opening-call, text-call, bare, entered, cycled, readOut, opening, listed, Gives};
 ghost use Rattle.lane.specs.Given.{GivesWith};
 
 mod given;
@@ -14,6 +14,7 @@ mod layout;
 mod listing;
 mod lookup;
 mod motion;
+mod openings;
 mod places;
 mod rows;
 mod rules;
@@ -82,6 +83,20 @@ pub struct Carrier {
     pub rate: u64,
 }
 
+// What is known of a newcomer before it has a number and a place.
+#[repr(C)]
+pub struct Newcomer {
+    pub speed: u64,
+    pub length: u64,
+    pub rate: u64,
+}
+
+// Where a newcomer would enter: directly behind the carrier of a number, or ahead of all.
+pub enum Gap {
+    Behind(u64),
+    AheadOfAll,
+}
+
 // What a start gives of the road: its surface code, the lane's end and the speed limit.
 #[repr(C)]
 pub struct Road {
@@ -127,6 +142,15 @@ pub struct Listed {
 pub struct ReadOut {
     pub no: u32,
     pub reading: Reading,
+}
+
+// The lowest and the highest position of an opening; both 0 where none exists.
+#[repr(C)]
+pub struct Opening {
+    pub no: u32,
+    pub exists: bool,
+    pub lowest: u64,
+    pub highest: u64,
 }
 
 // An empty lane that was never started, with the house rows.
@@ -224,6 +248,22 @@ pub fn read(l: &Lane, number: u64) -> ReadOut
         no: 0,
         reading: wish::reading_of(rules::narrow(c.position), rules::narrow(c.speed)),
     }
+}
+
+// Where in a gap a newcomer could enter.
+pub fn find_opening(l: &Lane, gap: Gap, newcomer: Newcomer) -> Opening
+    ensures { λ r. ⌜ Gives (opening-call gap newcomer) (now (l .entry)) (opening r) (now (l .entry)) ⌝ }
+{
+    let k = openings::check_opening(l, gap, newcomer);
+    if k.no != 0 {
+        return Opening {
+            no: k.no,
+            exists: false,
+            lowest: 0,
+            highest: 0,
+        };
+    }
+    openings::opening_at(l, k.place, newcomer)
 }
 
 // The lane text into a lent buffer, and its length.

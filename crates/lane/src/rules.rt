@@ -8,7 +8,7 @@ ghost use lib.Seq.{slice};
 ghost use Rattle.headway.specs.Totals.{restOf};
 ghost use Rattle.lane.specs.Layout.{recordsIn, stateOf};
 ghost use Rattle.lane.specs.Safety.{leader, guaranteedRate, reachTo, safeWith, anyOf, numbered};
-ghost use Rattle.lane.specs.Rules.{badNumber, badRate, roadNo, unlawful as unlawfulIn, pastEnd, faulty, broken, newcomerNo};
+ghost use Rattle.lane.specs.Rules.{badNumber, badRate, roadNo, unlawful as unlawfulIn, pastEnd, faulty, broken, valuesNo, newcomerNo};
 ghost use Rattle.lane.specs.Table.{tableIn, badTable, loadNo};
 ghost use Rattle.lane.specs.Calls.{none, ifAccepted, startNo, walk, gapNo, placeNo, enterNo, namedNo, placeOf, readyNo};
 use crate::Carrier;
@@ -93,16 +93,10 @@ pub(crate) fn past_end(road: Road, c: Carrier) -> bool
     road.end <= c.position - c.length
 }
 
-// The checks of a newcomer's own values.
-fn newcomer_refusal(road: Road, c: Carrier) -> u32
-    ensures { λ r. ⌜ r ≡ newcomerNo road c ⌝ }
+// The checks of a newcomer's speed, length and own rate.
+pub(crate) fn values_refusal(road: Road, c: Carrier) -> u32
+    ensures { λ r. ⌜ r ≡ valuesNo road c ⌝ }
 {
-    if bad_number(c.number) {
-        return 4;
-    }
-    if road.end <= c.position {
-        return 5;
-    }
     if road.limit < c.speed {
         return 6;
     }
@@ -113,6 +107,19 @@ fn newcomer_refusal(road: Road, c: Carrier) -> u32
         return 35;
     }
     0
+}
+
+// The checks of all its own values.
+fn newcomer_refusal(road: Road, c: Carrier) -> u32
+    ensures { λ r. ⌜ r ≡ newcomerNo road c ⌝ }
+{
+    if bad_number(c.number) {
+        return 4;
+    }
+    if road.end <= c.position {
+        return 5;
+    }
+    values_refusal(road, c)
 }
 
 // The rate at which a carrier is sure to brake: its own or the row's, whichever is smaller.
@@ -258,7 +265,7 @@ pub(crate) struct Checked {
     pub(crate) place: usize,
 }
 
-fn refused(no: u32) -> Checked
+pub(crate) fn refused(no: u32) -> Checked
     ensures { λ r. ⌜ r ≡ record { no = no; place = 0 } ⌝ }
 {
     Checked { no, place: 0 }

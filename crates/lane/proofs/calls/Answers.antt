@@ -6,18 +6,23 @@ use Prim.Native.Nat.{ℕ, suc, _≤_, _<_}
 use native.Mathlib.Omega.{arith}
 use borrow.Author.Tests.{ne-eqb, eqb-true, eqb-false, ltb-true, ltb-false, not-false}
 use lib.Dec.{eqb, ltb}
-use lib.ListN.{length, take, length-take}
+use lib.ListN.{length, getD, take, length-take}
+use lib.Seq.{getD-take}
 use Rattle.wish.specs.declared.Wish.{Wish}
 use Rattle.lane.specs.declared.Carrier.{Carrier}
+use Rattle.lane.specs.declared.Gap.{Gap}
+use Rattle.lane.specs.declared.Gap.the-variants.{Behind, AheadOfAll}
+use Rattle.lane.specs.declared.Newcomer.{Newcomer}
 use Rattle.lane.specs.Limits.{mostCarriers, lastCycle}
 use Rattle.lane.specs.Surface.{rowOf, rowIn}
 use Rattle.lane.specs.State.{State}
 use Rattle.lane.specs.Layout.{Words, stateOf, recordsIn}
 use Rattle.lane.specs.Safety.{laneSafe, anyOf, numbered}
-use Rattle.lane.specs.Rules.{badNumber, unlawful, pastEnd, newcomerNo, broken}
+use Rattle.lane.specs.Rules.{badNumber, unlawful, pastEnd, valuesNo, newcomerNo, broken}
 use Rattle.lane.specs.Wishes.{anyOutside}
 use Rattle.lane.specs.Table.{tableIn, badTable, loadNo}
-use Rattle.lane.specs.Calls.{ifAccepted, walk, gapNo, placeNo, enterNo, namedNo, placeOf, readyNo, cycleNo, surfaceNo}
+use Rattle.lane.specs.Calls.{none, ifAccepted, walk, gapNo, placeNo, enterNo, namedNo, placeOf, readyNo, cycleNo, surfaceNo}
+use Rattle.lane.specs.Opening.{newcomerAt, gapPlace, gapNamedNo, openingNo}
 use Rattle.lane.specs.Call.{Call, Answer, callNo, acceptedState, lentTo, bare, acceptedAnswer, callAnswer, callState, Gives}
 use Rattle.lane.proofs.lists.Passed.{passed}
 use Rattle.lane.proofs.lists.Search.{place-any, place-le}
@@ -117,6 +122,10 @@ load-tells s text e =
 pub counted-most : (l : Words) → length (stateOf l .carriers) ≤ stateOf l .count
 counted-most l = omega (arith, length-take (stateOf l .count) (recordsIn l))
 
+-- and its carriers are the first of its records
+pub record-at : (l : Words) (i : ℕ) → i < length (stateOf l .carriers) → getD (recordsIn l) i none ≡ getD (stateOf l .carriers) i none
+record-at l i h = sym (getD-take (stateOf l .count) (recordsIn l) i none (omega (arith, counted-most l)))
+
 -- an enter
 pub record Enters (s : State) (c : Carrier) : Type 0 where
   pub sound : Sound s
@@ -158,6 +167,24 @@ unfolding namedNo
 named-tells s number e =
     let there = none-else (anyOf (numbered number) (s .carriers)) 23 (passed (badNumber number) 3 _ (passed (broken s) 20 _ e .1) .1) in
     record { sound = accepted-sound s _ e; within = ltb-true _ _ (place-any (numbered number) (s .carriers) ∙ there) }
+
+-- an opening: there is such a gap, and the newcomer's values are in range
+pub record Asks (s : State) (g : Gap) (n : Newcomer) : Type 0 where
+  pub sound : Sound s
+  pub within : gapPlace g (s .carriers) ≤ length (s .carriers)
+  pub values : valuesNo (s .road) (newcomerAt n 0) ≡ 0
+
+gap-tells : (s : State) (g : Gap) → gapNamedNo s g ≡ 0 → Sound s × (gapPlace g (s .carriers) ≤ length (s .carriers))
+unfolding gapNamedNo gapPlace
+gap-tells s (Behind number) e = let named = named-tells s number e in (named .sound, named .within)
+gap-tells s AheadOfAll e = (accepted-sound s 0 e, omega arith)
+
+pub opening-tells : (s : State) (g : Gap) (n : Newcomer) → openingNo s g n ≡ 0 → Asks s g n
+unfolding openingNo
+opening-tells s g n e =
+    let b = accepted-both (gapNamedNo s g) _ e in
+    let gap = gap-tells s g (b .0) in
+    record { sound = gap .0; within = gap .1; values = b .1 }
 
 -- a change of surface: the row of a code that there is keeps the lane safe
 pub record Surfaces (s : State) (code : ℕ) : Type 0 where

@@ -10,7 +10,7 @@ use Rattle.lane.specs.State.{State}
 use Rattle.lane.specs.Layout.{Words, stateOf, withCode}
 use Rattle.lane.specs.Table.{tableIn, rowsLoaded, loadedState}
 use Rattle.lane.specs.Calls.{begunState, enteredState, leftState, cycledState}
-use Rattle.lane.specs.Call.{Call, start-call, load-call, enter-call, leave-call, surface-call, cycle-call, read-call, text-call, meaning, callNo, acceptedState, callAnswer, Gives}
+use Rattle.lane.specs.Call.{Call, start-call, load-call, enter-call, leave-call, surface-call, cycle-call, read-call, opening-call, text-call, meaning, callNo, acceptedState, callAnswer, Gives}
 use Rattle.lane.proofs.checks.Records.{table-eight, wordsFor, Fills, words-for, withNext, with-next, code-state}
 use Rattle.lane.proofs.checks.TableTexts.{eight-loaded}
 use Rattle.lane.proofs.calls.Answers.{refused-changes-nothing, accepted-changes, answer-number, load-tells, surface-tells}
@@ -39,6 +39,7 @@ leaves (surface-call code) l z =
     (withCode code l, code-state l code (surface-tells (stateOf l) code z .sound .road .end-least), λ r. absurd (true≢false (sym r)))
 leaves (cycle-call count ws) l z = written l (cycledState (stateOf l) ws) (filled l _ refl refl)
 leaves (read-call number) l z = (l, refl, λ r. refl)
+leaves (opening-call g n) l z = (l, refl, λ r. refl)
 leaves (text-call buffer) l z = (l, refl, λ r. refl)
 
 -- the lane that a call leaves, by whether its number is 0

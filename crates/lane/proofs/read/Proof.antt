@@ -5,14 +5,13 @@ use native.Mathlib.Omega.{arith}
 use borrow.Author.Needs.{needs}
 use lib.Ieee.Exact.{HasValue}
 use lib.ListN.{getD}
-use lib.Seq.{getD-take}
 use Rattle.wish.specs.Reading.{readingOf}
 use Rattle.wish.specs.declared.Reading.{Reading}
 use Rattle.lane.specs.declared.Carrier.{Carrier}
 use Rattle.lane.specs.Layout.{Words, recordsIn, stateOf}
 use Rattle.lane.specs.Calls.{none, namedNo, placeOf, namedCarrier}
 use Rattle.lane.specs.Call.{read-call, shown, Gives}
-use Rattle.lane.proofs.calls.Answers.{Names, gives-refused, gives-accepted, accepted-has, named-tells, counted-most}
+use Rattle.lane.proofs.calls.Answers.{Names, gives-refused, gives-accepted, accepted-has, named-tells, counted-most, record-at}
 use Rattle.lane.proofs.checks.Soundness.{Narrow, fit-at, fit-narrow}
 use Rattle.lane.proofs.read.Statement.{statement}
 use Rattle.lane.proofs.read.Tie as tie
@@ -39,9 +38,7 @@ module _ (c : tie.Else1) where
 
   -- the record that is read is the carrier named
   named : getD (recordsIn lane) (checked .check-named .result .place) none ≡ namedCarrier (stateOf lane) number
-  named =
-      ap (λ (n : ℕ). getD (recordsIn lane) n none) place-is
-      ∙ sym (getD-take (stateOf lane .count) (recordsIn lane) _ none (omega (arith, told .within, counted-most lane)))
+  named = ap (λ (n : ℕ). getD (recordsIn lane) n none) place-is ∙ record-at lane _ (told .within)
 
   narrow : Narrow (namedCarrier (stateOf lane) number)
   narrow =
