@@ -27,7 +27,7 @@ pub record Agree (s : State) (b : Book) : Type 0 where
   pub same : bookOf s ≡ b
   pub good : Good s
 
-counted : {s : State} → Good s → s .count ≡ length (s .carriers)
+pub counted : {s : State} → Good s → s .count ≡ length (s .carriers)
 counted (empty e f) = rw (e, f) refl
 counted (kept h) = h .counted
 

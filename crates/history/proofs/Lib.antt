@@ -11,5 +11,6 @@ pub mod History
 pub mod Answered
 pub mod Rows
 pub mod Changes
+pub mod Openings
 pub mod Consequences
 pub mod Remaining

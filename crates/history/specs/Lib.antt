@@ -1,3 +1,4 @@
 pub mod Book
 pub mod Claims
 pub mod History
+pub mod Openings

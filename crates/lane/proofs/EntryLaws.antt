@@ -1,6 +1,6 @@
 -- An entry in numbers, where the lane breaks no rule, the newcomer's own values are in range, and its number and a place are free: it is let in exactly
 -- where it is safe behind the carrier ahead and who is then behind it is safe too, and else turned away by 25 or 26.
-use mathlib.Core.Path.{_≡_, refl, sym, _∙_}
+use mathlib.Core.Path.{_≡_, refl, sym, ap, _∙_}
 use mathlib.Core.Bool.{Bool, true, false, not, _&&_, true≢false}
 use mathlib.Core.List.{List, [], _∷_}
 use Prim.Native.Nat.{ℕ, zero, suc, _+_, _-_, _≤_, _<_, min}
@@ -84,7 +84,7 @@ module _ (r : Row) (a c : Carrier) where
 
 -- ---- the gap at a place
 module _ (r : Row) (c : Carrier) (cs : List Carrier) where
-  ahead-safe : (place : ℕ) → (0 < place → SafeBy r (getD cs (place - 1) none) c) → safeWith r (aheadOf place cs) c ≡ true
+  pub ahead-safe : (place : ℕ) → (0 < place → SafeBy r (getD cs (place - 1) none) c) → safeWith r (aheadOf place cs) c ≡ true
   unfolding safeWith
   ahead-safe zero h = refl
   ahead-safe (suc i) h = rw (eqb·suc-zero i) (numbers-safe r (getD cs (suc i - 1) none) c (h (omega arith)))
@@ -93,12 +93,20 @@ module _ (r : Row) (c : Carrier) (cs : List Carrier) where
   ahead-unsafe zero p h = absurd (omega arith)
   ahead-unsafe (suc i) p h = rw (eqb·suc-zero i) (numbers-unsafe r (getD cs (suc i - 1) none) c h)
 
-  behind-safe : (place : ℕ) → (place < length cs → SafeBy r c (getD cs place none)) → ltb place (length cs) && not (safeWith r (leader c) (getD cs place none)) ≡ false
+  pub behind-safe : (place : ℕ) → (place < length cs → SafeBy r c (getD cs place none)) → ltb place (length cs) && not (safeWith r (leader c) (getD cs place none)) ≡ false
   behind-safe place h = by-test (ltb place (length cs)) refl
     where
       by-test : (t : Bool) → ltb place (length cs) ≡ t → t && not (safeWith r (leader c) (getD cs place none)) ≡ false
       by-test true e = rw (numbers-safe r c (getD cs place none) (h (ltb-true place (length cs) e))) refl
       by-test false e = refl
+
+-- where 21, 22, 23 and the newcomer's own values are passed, the gap decides where the walk ends
+pub entry-by-gap : (s : State) (c : Carrier) → broken s ≡ false → Newcomer (s .road) c → s .count < 64
+    → ((i : ℕ) → i < length (s .carriers) → ¬ (getD (s .carriers) i none .number ≡ c .number))
+    → callNo (enter-call c) s ≡ gapNo (rowIn (s .tables) (s .road)) (walk (c .position) (s .carriers)) c (s .carriers)
+unfolding enterNo placeNo
+entry-by-gap s c e own room new =
+    rw (e, newcomer-passes (s .road) c own, ne-eqb (s .count) 64 (λ f. omega arith), absent (c .number) (s .carriers) new) refl
 
 -- "25 not safe behind the carrier ahead; 26 the carrier behind not safe", looked at last and in this order
 pub entry-answers : (s : State) (c : Carrier) (place : ℕ) →
@@ -113,7 +121,7 @@ pub entry-answers : (s : State) (c : Carrier) (place : ℕ) →
     → ((0 < place → Safe (getD cs (place - 1) none) c) → (place < length cs → Safe c (getD cs place none)) → callNo (enter-call c) s ≡ 0)
     × (0 < place → ¬ (Safe (getD cs (place - 1) none) c) → callNo (enter-call c) s ≡ 25)
     × ((0 < place → Safe (getD cs (place - 1) none) c) → place < length cs → ¬ (Safe c (getD cs place none)) → callNo (enter-call c) s ≡ 26)
-unfolding enterNo placeNo gapNo
+unfolding gapNo
 entry-answers s c place e own room new within before at = (
   λ front back. by-gap ∙ rw (ahead-safe r c cs place front, behind-safe r c cs place back) refl,
   λ p front. by-gap ∙ rw (ahead-unsafe r c cs place p front) refl,
@@ -127,8 +135,7 @@ entry-answers s c place e own room new within before at = (
     cs = s .carriers
 
     by-gap : callNo (enter-call c) s ≡ gapNo r place c cs
-    by-gap =
-        rw (e, newcomer-passes (s .road) c own, ne-eqb (s .count) 64 (λ f. omega arith), absent (c .number) cs new, walk-ends (c .position) cs place within before at) refl
+    by-gap = entry-by-gap s c e own room new ∙ ap (λ (i : ℕ). gapNo r i c cs) (walk-ends (c .position) cs place within before at)
 
 -- so that on a lane with nobody on it every such one is let in
 pub alone-enters : (s : State) (c : Carrier) → broken s ≡ false → s .count ≡ 0 → s .carriers ≡ [] → Newcomer (s .road) c → callNo (enter-call c) s ≡ 0

@@ -8,6 +8,7 @@ mod driving
 mod calls
 pub mod Newcomers
 pub mod EntryLaws
+pub mod OpeningLaws
 mod Unbroken
 pub mod Laws
 mod Cases

@@ -26,7 +26,7 @@ use Rattle.lane.specs.Opening.{newcomerAt, gapPlace, gapNamedNo, opening
 use Rattle.lane.specs.Call.{Call, Answer, callNo, acceptedState, lentTo, bare, acceptedAnswer, callAnswer, callState, Gives}
 use Rattle.lane.proofs.lists.Passed.{passed}
 use Rattle.lane.proofs.lists.Search.{place-any, place-le}
-use Rattle.lane.proofs.Newcomers.{newcomer-is}
+use Rattle.lane.proofs.Newcomers.{Newcomer as InRange, newcomer-is}
 use Rattle.lane.proofs.checks.Soundness.{newcomer-lawful, newcomer-before-end, Sound, sound}
 
 -- a value of a call that is refused, and of one that is accepted
@@ -129,6 +129,7 @@ record-at l i h = sym (getD-take (stateOf l .count) (recordsIn l) i none (omega 
 -- an enter
 pub record Enters (s : State) (c : Carrier) : Type 0 where
   pub sound : Sound s
+  pub own : InRange (s .road) c
   pub lawful : unlawful (s .road) c ≡ false
   pub before-end : pastEnd (s .road) c ≡ false
   pub room : s .count < 64
@@ -146,6 +147,7 @@ enter-tells s c e =
     let most : ¬ (s .count ≡ 64) = eqb-false (s .count) 64 (full .0) in
     record {
       sound = h;
+      own = itself;
       lawful = newcomer-lawful (s .road) c itself;
       before-end = newcomer-before-end (s .road) c itself;
       room = omega (arith, h .count);

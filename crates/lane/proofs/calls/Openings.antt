@@ -6,7 +6,7 @@ use mathlib.Core.Logic.{by-cases}
 use Prim.Native.Nat.{ℕ, zero, suc, _+_, _-_, _≤_, _<_, min}
 use native.Mathlib.Decide.{decLt, decLe}
 use native.Mathlib.Omega.{arith}
-use borrow.Author.Tests.{le-leb, lt-leb, lt-ltb, le-ltb, leb-true, leb-false, ltb-true, ltb-false, eq-eqb, ne-eqb, not-false, not-true}
+use borrow.Author.Tests.{le-leb, lt-leb, lt-ltb, le-ltb, leb-true, leb-false, ltb-true, ltb-false, eq-eqb, ne-eqb, eqb-true, not-false, not-true}
 use lib.Dec.{eqb, leb, ltb}
 use lib.ListN.{length, getD}
 use Rattle.headway.specs.Stopping.{stoppingDistance}
@@ -15,10 +15,10 @@ use Rattle.lane.specs.declared.Newcomer.{Newcomer}
 use Rattle.lane.specs.declared.Row.{Row}
 use Rattle.lane.specs.Surface.{rowIn}
 use Rattle.lane.specs.State.{State}
-use Rattle.lane.specs.Safety.{leader, guaranteedRate, safeWith, laneSafe}
+use Rattle.lane.specs.Safety.{nobody, leader, guaranteedRate, safeWith, laneSafe}
 use Rattle.lane.specs.Calls.{none, aheadOf, walk, gapNo}
 use Rattle.lane.specs.Opening.{newcomerAt, opens}
-use Rattle.lane.proofs.EntryLaws.{walk-ends, SafeBy, numbers-safe, safe-numbers, numbers-unsafe}
+use Rattle.lane.proofs.EntryLaws.{walk-ends, SafeBy, numbers-safe, safe-numbers, numbers-unsafe, ahead-safe, behind-safe}
 use Rattle.lane.proofs.lists.Passed.{both}
 use Rattle.lane.proofs.calls.Order.{lane-order}
 
@@ -57,6 +57,22 @@ end-or-leader end safe p =
     (λ k. rw (lt-leb end p (omega arith)) (by-cases (decLt p safe)
     (λ h. rw (lt-ltb p safe h) (sym (lt-ltb p (min end safe) (omega arith))))
     (λ h. rw (le-ltb p safe (omega arith)) (sym (le-ltb p (min end safe) (omega arith))))))
+
+-- the tests of a position one by one
+module _ (s : State) (place : ℕ) (n : Newcomer) (p : ℕ) where
+  pub opens-at : opens s place n p ≡ true
+      → (walk p (s .carriers) ≡ place) × (p < s .road .end) × (gapNo (rowIn (s .tables) (s .road)) place (newcomerAt n p) (s .carriers) ≡ 0)
+  unfolding opens
+  opens-at e =
+      let gap = gapNo (rowIn (s .tables) (s .road)) place (newcomerAt n p) (s .carriers) in
+      let first = both (eqb (walk p (s .carriers)) place && not (leb (s .road .end) p)) (eqb gap 0) e in
+      let start = both (eqb (walk p (s .carriers)) place) (not (leb (s .road .end) p)) (first .0) in
+      (eqb-true _ place (start .0), leb-false (s .road .end) p (not-true (leb (s .road .end) p) (start .1)), eqb-true gap 0 (first .1))
+
+  pub opens-there : walk p (s .carriers) ≡ place → p < s .road .end → gapNo (rowIn (s .tables) (s .road)) place (newcomerAt n p) (s .carriers) ≡ 0
+      → opens s place n p ≡ true
+  unfolding opens
+  opens-there w before gap = rw (eq-eqb (walk p (s .carriers)) place w, lt-leb (s .road .end) p before, gap) refl
 
 -- 25 and 26 are not given where both neighbours are safe
 gap-open : (r : Row) (place : ℕ) (c : Carrier) (cs : List Carrier)
@@ -123,3 +139,46 @@ module _ (s : State) (place : ℕ) (n : Newcomer) (safe : laneSafe (rowIn (s .ta
       rw (gap-open r place (newcomerAt n p) cs)
       (all-tests (eqb (walk p cs) place) (not (leb (s .road .end) p)) (safeWith r (aheadOf place cs) (newcomerAt n p)) _ (leb low p) (ltb p end) (front p) (back p) λ x y.
       eq-eqb (walk p cs) place (walks-there p (both (not (leb (s .road .end) p)) (safeWith r (aheadOf place cs) (newcomerAt n p)) (front p ∙ y) .1) (λ h. not-false _ (rw (lt-ltb place (length cs) h, x) at (back p)))))
+
+  -- the positions from one on that are below another
+  pub opens-formula : (low end : ℕ) × (end ≤ s .road .end) × ((p : ℕ) → opens s place n p ≡ leb low p && ltb p end)
+  unfolding safeWith
+  opens-formula = (lowest .0, ending .0, ending .1, opens-between (lowest .0) (ending .0) (lowest .1) (ending .2))
+    where
+      lowest : (low : ℕ) × ((p : ℕ) → ltb place (length cs) && not (safeWith r (leader (newcomerAt n p)) (getD cs place none)) ≡ not (leb low p))
+      lowest = by-test (ltb place (length cs))
+        where
+          by-test : (t : Bool) → (low : ℕ) × ((p : ℕ) → t && not (safeWith r (leader (newcomerAt n p)) (getD cs place none)) ≡ not (leb low p))
+          by-test true = (aboveFollower r n (getD cs place none), λ p. ap not (above-follower r n (getD cs place none) p))
+          by-test false = (0, λ p. rw (le-leb 0 p (omega arith)) refl)
+
+      ending : (end : ℕ) × (end ≤ s .road .end) × ((p : ℕ) → not (leb (s .road .end) p) && safeWith r (aheadOf place cs) (newcomerAt n p) ≡ ltb p end)
+      ending = by-test (eqb place 0)
+        where
+          by-test : (t : Bool) → (end : ℕ) × (end ≤ s .road .end) × ((p : ℕ) → not (leb (s .road .end) p) && safeWith r (cond t nobody (leader (getD cs (place - 1) none))) (newcomerAt n p) ≡ ltb p end)
+          by-test true = (s .road .end, omega arith, end-alone (s .road .end))
+          by-test false =
+              let below = belowLeader r n (getD cs (place - 1) none) in
+              (min (s .road .end) below, omega arith, λ p. rw (below-leader r n (getD cs (place - 1) none) p) (end-or-leader (s .road .end) below p))
+
+  -- and in numbers
+  module _ (p : ℕ) where
+    pub opens-where : p < s .road .end → (0 < place → SafeBy r (getD cs (place - 1) none) (newcomerAt n p)) → (place < length cs → SafeBy r (newcomerAt n p) (getD cs place none))
+        → opens s place n p ≡ true
+    unfolding opens
+    opens-where before front back =
+        let ahead = ahead-safe r (newcomerAt n p) cs place front in
+        let there = walks-there p ahead (λ h. numbers-safe r (newcomerAt n p) (getD cs place none) (back h)) in
+        rw (gap-open r place (newcomerAt n p) cs, eq-eqb (walk p cs) place there, lt-leb (s .road .end) p before, ahead, behind-safe r (newcomerAt n p) cs place back) refl
+
+    pub opens-says : opens s place n p ≡ true
+        → (p < s .road .end) × (0 < place → SafeBy r (getD cs (place - 1) none) (newcomerAt n p)) × (place < length cs → SafeBy r (newcomerAt n p) (getD cs place none))
+    opens-says e =
+        let c = newcomerAt n p in
+        let behind = ltb place (length cs) && not (safeWith r (leader c) (getD cs place none)) in
+        let o = opens-at s place n p e in
+        let gap = both (safeWith r (aheadOf place cs) c) (not behind) (sym (gap-open r place c cs) ∙ eq-eqb (gapNo r place c cs) 0 (o .2)) in (
+          o .1,
+          λ h. safe-numbers r (getD cs (place - 1) none) c (rw (ne-eqb place 0 (λ z. omega arith)) at (gap .0)),
+          λ h. safe-numbers r c (getD cs place none) (not-false (safeWith r (leader c) (getD cs place none)) (rw (lt-ltb place (length cs) h) at (not-true behind (gap .1)))),
+        )

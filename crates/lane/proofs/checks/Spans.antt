@@ -1,11 +1,14 @@
 -- The lowest and the highest number that pass a test, where those that do are all from one number up to another.
 use mathlib.Core.Path.{_≡_, refl, sym, ap, _∙_}
-use mathlib.Core.Bool.{Bool, true, false, _&&_, cond}
+use mathlib.Core.Bool.{Bool, true, false, _&&_, cond, false≢true}
+use mathlib.Core.Logic.{by-cases}
 use Prim.Native.Nat.{ℕ, zero, suc, _-_, _≤_, _<_}
+use native.Mathlib.Decide.{decLt}
 use native.Mathlib.Omega.{arith}
-use borrow.Author.Tests.{le-leb, lt-leb, lt-ltb, le-ltb, leb-true, eqb-true, eqb-false}
+use borrow.Author.Tests.{le-leb, lt-leb, lt-ltb, le-ltb, leb-true, ltb-true, eqb-true, eqb-false}
 use lib.Dec.{eqb, leb, ltb}
 use Rattle.lane.specs.Limits.{positions}
+use Rattle.lane.proofs.lists.Passed.{both}
 use Rattle.lane.specs.Opening.{lowestBelow, highestBelow, Span, nowhere, spanOf}
 
 -- the first that passes is the lowest,
@@ -58,3 +61,19 @@ module _ (test : ℕ → Bool) (low end : ℕ) (h : end ≤ positions) (passes :
           by-test : (t : Bool) → leb low n ≡ t → t && ltb n end ≡ false
           by-test true e = le-ltb n end (omega (arith, leb-true low n e))
           by-test false e = refl
+
+  -- between its ends is who passes, and nobody else
+  module _ (p : ℕ) where
+    passing : test p ≡ true → (low ≤ p) × (p < end)
+    passing e = let h = both (leb low p) (ltb p end) (sym (passes p) ∙ e) in (leb-true low p (h .0), ltb-true p end (h .1))
+
+    pub between-passes : spanOf test .exists ≡ true → spanOf test .lowest ≤ p → p ≤ spanOf test .highest → test p ≡ true
+    between-passes there least most =
+        by-cases (decLt low end)
+        (λ k.
+        let is = span-some k in
+        passes p ∙ rw (le-leb low p (rw is at least), lt-ltb p end (let m = rw is at most in omega (arith, m))) refl)
+        (λ k. absurd (false≢true (rw (span-none (omega arith)) at there)))
+
+    pub passes-between : test p ≡ true → (spanOf test .exists ≡ true) × (spanOf test .lowest ≤ p) × (p ≤ spanOf test .highest)
+    passes-between e = let h = passing e in rw (span-some (omega (arith, h .0, h .1))) (refl, h .0, omega (arith, h .1))

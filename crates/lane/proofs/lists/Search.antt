@@ -51,6 +51,17 @@ module _ (f : Carrier → Bool) where
       by-test true e = lt-ltb 0 (suc (length l)) (omega arith)
       by-test false e = leb·suc-suc (suc (firstPlace f l)) (length l) ∙ e
 
+  -- who stands there passes
+  pub place-passes : (l : List Carrier) (d : Carrier) → firstPlace f l < length l → f (getD l (firstPlace f l) d) ≡ true
+  unfolding firstPlace
+  place-passes [] d h = absurd (omega arith)
+  place-passes (c ∷ l) d h = by-test (f c) refl (place-passes l d) h
+    where
+      by-test : (t : Bool) → f c ≡ t → (firstPlace f l < length l → f (getD l (firstPlace f l) d) ≡ true)
+          → cond t 0 (suc (firstPlace f l)) < length (c ∷ l) → f (getD (c ∷ l) (cond t 0 (suc (firstPlace f l))) d) ≡ true
+      by-test true e later k = e
+      by-test false e later k = later (omega arith)
+
   pub place-le : (l : List Carrier) → firstPlace f l ≤ length l
   unfolding firstPlace
   place-le [] = omega arith
