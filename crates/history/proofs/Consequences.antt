@@ -28,6 +28,7 @@ use Rattle.lane.proofs.CallLaws.{answer-number, kept-not-21}
 use Rattle.history.specs.Book.{Seen, Book, begun, trimmedIn, guaranteedIn, drivenIn, booked}
 use Rattle.history.specs.Claims.{Kind, begins, loads, surfaces, runs, other, kindOf, carrierAt, placeAt, restsLevelOrCrossed, Claims}
 use Rattle.history.specs.History.{Event, callsIn, seen, bookOn, Ran, Typed, AllTyped, startsLane, Chain, chain-end, chain-next, Throughout, SurfaceChanges, NeverBroken}
+use Rattle.history.specs.Openings.{Openings}
 use Rattle.history.proofs.Bits.{below-power}
 use Rattle.history.proofs.Books.{driven-at, driven-at-least}
 use Rattle.history.proofs.Fronts.{front-below}
@@ -35,6 +36,7 @@ use Rattle.history.proofs.Lasting.{goes-on}
 use Rattle.history.proofs.History.{ran-gives, history}
 use Rattle.history.proofs.Answered.{every-list}
 use Rattle.history.proofs.Changes.{surface-changes}
+use Rattle.history.proofs.Openings.{openings}
 
 -- what is claimed throughout is claimed of every call of the list, at the lane and the book that the calls before it have left
 pub at-each-call : (b : Book) (before : List Event) (e : Event) (later : List Event) → Throughout b (before ++ (e ∷ later))
@@ -189,10 +191,10 @@ trimmed-by-the-row b c w z e = rw e refl
 -- throughout it, and of its changes of surface
 pub every-list-claimed : (l : Words) → stateOf l .count ≡ 0 → (xs : List Call)
     → ((i count : ℕ) (ws : List Wish) → getD xs i (read-call 0) ≡ cycle-call count ws → length ws ≡ 64)
-    → (es : List Event) × (d : Words) × Ran l es d × (callsIn es ≡ xs) × Throughout (begun l) es × SurfaceChanges l es
+    → (es : List Event) × (d : Words) × Ran l es d × (callsIn es ≡ xs) × Throughout (begun l) es × SurfaceChanges l es × Openings l es
 every-list-claimed l e xs sixty-four =
     let h = every-list l xs (all-typed xs sixty-four) in
-    (h .events, h .last, h .ran, h .calls, history l e (h .events) (h .last) (h .ran), surface-changes l e (h .events) (h .last) (h .ran))
+    (h .events, h .last, h .ran, h .calls, history l e (h .events) (h .last) (h .ran), surface-changes l e (h .events) (h .last) (h .ran), openings l e (h .events) (h .last) (h .ran))
   where
     typed : {x : Call} (k : Kind x) → ((count : ℕ) (ws : List Wish) → x ≡ cycle-call count ws → length ws ≡ 64) → Typed k
     typed (begins road first) h = tt

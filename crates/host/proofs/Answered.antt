@@ -24,13 +24,14 @@ use Rattle.lane.specs.Given.{wishesNo, wishesGiven, GivesWith}
 use Rattle.lane.proofs.Answerable.{gives-some, returned, read-exact}
 use Rattle.history.specs.Book.{begun}
 use Rattle.history.specs.History.{Event, callsIn, Throughout, SurfaceChanges, NeverBroken}
+use Rattle.history.specs.Openings.{Openings}
 use Rattle.history.proofs.Answered.{of-lane, of-both, lent, left, gives-as, reads-as, lends, lends-both, Exact, surface-puts}
 use Rattle.console.specs.declared.Stepped.{Stepped}
 use Rattle.console.specs.History.{blockRun}
 use Rattle.console.proofs.Answered.{every-step}
 use Rattle.host.specs.Gaps.{gapGiven}
 use Rattle.host.proofs.Calls.{HostCall, starts, loads, enters, leaves, surfaces, cycles, reads, finds, lists, steps, eventsMade, stepAnswer, Cycles, HostDid, HostRan, nothing-yet, call, allMade, Emptied}
-use Rattle.host.proofs.History.{host-history, host-history-from-empty, host-surface-changes, host-calls, host-never-broken}
+use Rattle.host.proofs.History.{host-history, host-history-from-empty, host-surface-changes, host-openings, host-calls, host-never-broken}
 use Rattle.host.proofs.rondavitse_empty.Reads as empty-reads
 use Rattle.host.proofs.rondavitse_start.Reads as start-reads
 use Rattle.host.proofs.rondavitse_load.Reads as load-reads
@@ -161,12 +162,12 @@ every-host-list l (x ∷ xs) =
     record { events = eventsMade x (d .answer) (d .after) ++ h .events; last = h .last; ran = call (d .answer) (d .did) (h .ran) }
 
 -- for every list of exported calls from an empty lane there is a history: its calls are those that the exported ones are, what is claimed holds
--- throughout and of changes of surface, and no call gives 21 after a start
+-- throughout, of changes of surface and of openings, and no call gives 21 after a start
 pub every-host-list-claimed : (l : Words) → stateOf l .count ≡ 0 → (xs : List HostCall)
-    → (h : HostHistoryOf l xs) × (callsIn (h .events) ≡ allMade xs) × Throughout (begun l) (h .events) × SurfaceChanges l (h .events) × NeverBroken false (h .events)
+    → (h : HostHistoryOf l xs) × (callsIn (h .events) ≡ allMade xs) × Throughout (begun l) (h .events) × SurfaceChanges l (h .events) × Openings l (h .events) × NeverBroken false (h .events)
 every-host-list-claimed l e xs =
     let h = every-host-list l xs in
-    (h, host-calls (h .ran), host-history l e xs (h .events) (h .last) (h .ran), host-surface-changes l e xs (h .events) (h .last) (h .ran), host-never-broken (h .ran))
+    (h, host-calls (h .ran), host-history l e xs (h .events) (h .last) (h .ran), host-surface-changes l e xs (h .events) (h .last) (h .ran), host-openings l e xs (h .events) (h .last) (h .ran), host-never-broken (h .ran))
 
 -- and from the lane that `rondavitse_empty` gives
 pub every-host-list-from-empty : (xs : List HostCall) → Emptied emptyWords × ((h : HostHistoryOf emptyWords xs) × Throughout (begun emptyWords) (h .events))

@@ -13,10 +13,12 @@ use Rattle.lane.specs.Given.{wishesNo, wishesGiven, GivesWith}
 use Rattle.lane.proofs.Laws.{wishes-enough}
 use Rattle.history.specs.Book.{begun}
 use Rattle.history.specs.History.{Event, callsIn, Chain, chain-end, chain-next, Throughout, LoadedRowsServe, SurfaceChanges, NeverBroken}
+use Rattle.history.specs.Openings.{Openings}
 use Rattle.history.proofs.History.{given-of, read-of, chain-history}
 use Rattle.history.proofs.Consequences.{chain-never-broken}
 use Rattle.history.proofs.Rows.{chain-loaded-rows-serve}
 use Rattle.history.proofs.Changes.{chain-surface-changes}
+use Rattle.history.proofs.Openings.{chain-openings}
 use Rattle.console.specs.Blocks.{Parsed, parsed, malformed}
 use Rattle.console.specs.History.{blockRun, eventsOf, callsWith}
 use Rattle.console.proofs.Calls.{step-chain}
@@ -79,6 +81,10 @@ host-loaded-rows-serve l xs es d r = chain-loaded-rows-serve (is-chain r)
 -- `rondavitse_surface`, or a block, changes the surface exactly where the book's carriers are safe on it, and it serves until another one or a start
 pub host-surface-changes : (l : Words) → stateOf l .count ≡ 0 → (xs : List HostCall) (es : List Event) (d : Words) → HostRan l xs es d → SurfaceChanges l es
 host-surface-changes l e xs es d r = chain-surface-changes e (is-chain r)
+
+-- `rondavitse_find_opening` answers exactly the positions at which by the book a newcomer fits, and `rondavitse_enter`, or a block, lets it in there
+pub host-openings : (l : Words) → stateOf l .count ≡ 0 → (xs : List HostCall) (es : List Event) (d : Words) → HostRan l xs es d → Openings l es
+host-openings l e xs es d r = chain-openings e (is-chain r)
 
 -- the calls of the lane are those that the exported calls are, refused or not
 pub host-calls : {l d : Words} {xs : List HostCall} {es : List Event} → HostRan l xs es d → callsIn es ≡ allMade xs
