@@ -32,7 +32,7 @@ extern "C" {
 
 /* The number of this interface, another one whenever a struct, a number, a constant or a function changes, a function in its form or in what it
  * answers. A host asks the library for its own before the first call: where they differ, header and library do not belong together. */
-#define RONDAVITSE_VERSION 6
+#define RONDAVITSE_VERSION 7
 uint32_t rondavitse_version(void);
 
 #define RONDAVITSE_LAST_SURFACE 7
@@ -141,6 +141,13 @@ typedef struct rondavitse_carrier {
     uint64_t rate; /* its own braking rate, 1/16 m/s², 1 to 255: its guaranteed braking is the smaller of it and the row's b */
 } rondavitse_carrier;
 
+/* What is known of a newcomer before it has a number and a place. */
+typedef struct rondavitse_newcomer {
+    uint64_t speed;
+    uint64_t length;
+    uint64_t rate; /* its own, as a carrier's */
+} rondavitse_newcomer;
+
 /* A carrier as it stands in the lane: its front may be past the lane end, its tail is before it. */
 typedef struct rondavitse_record {
     uint64_t number;
@@ -172,6 +179,13 @@ typedef struct rondavitse_entered {
     uint32_t no;
     size_t place; /* from 0 at the front */
 } rondavitse_entered;
+
+typedef struct rondavitse_opening {
+    uint32_t no;
+    bool exists;      /* 0 or 1; where it is 0, there is no such position, and both are 0 */
+    uint64_t lowest;
+    uint64_t highest; /* the same as the lowest where there is one position alone */
+} rondavitse_opening;
 
 typedef struct rondavitse_cycled {
     uint32_t no;
@@ -224,6 +238,13 @@ uint32_t rondavitse_surface(rondavitse_lane *lane, uint64_t surface);
 /* The carrier goes in at the place found, if it and the one behind it are safe there, each behind the tail of the one ahead.
  * Checks: 21, 4, 5 for its front, 6, 33, 35, 22, 23, 25, 26. */
 rondavitse_entered rondavitse_enter(rondavitse_lane *lane, rondavitse_carrier carrier);
+
+/* Where a newcomer with these values could enter: the lowest and the highest position in the gap directly behind the carrier `number`, or, for
+ * any `head` but 0, ahead of all, and `number` is then not looked at. From the lowest to the highest, and nowhere else, an entry would find its
+ * place in that gap and be given none of 5, 25 and 26. 22 and 23 are not looked at: a full lane has openings too. That there is no such position
+ * is no refusal: `exists` is then 0. An opening holds until another call changes the lane.
+ * Checks: 21; for a carrier named 4, 24; then 6, 33, 35. */
+rondavitse_opening rondavitse_find_opening(const rondavitse_lane *lane, uint64_t head, uint64_t number, rondavitse_newcomer newcomer);
 
 /* The carrier named comes out; gives `no`. Checks: 21, 4, 24. */
 uint32_t rondavitse_leave(rondavitse_lane *lane, uint64_t number);
