@@ -7,6 +7,7 @@
 #include <inttypes.h>
 #include <stdio.h>
 #include <stdlib.h>
+#include <string.h>
 
 static unsigned compared, differing;
 
@@ -16,6 +17,13 @@ static void same(const char *call, const char *field, uint64_t got, uint64_t wan
         differing++;
         printf("%s: %s is %" PRIX64 " in place of %" PRIX64 "\n", call, field, got, wanted);
     }
+}
+
+/* A flag's byte as it is: one that is neither 0 nor 1 must not pass for true. */
+static inline uint64_t byte_of(const bool *flag) {
+    unsigned char byte;
+    memcpy(&byte, flag, 1);
+    return byte;
 }
 
 static int verdict(void) {

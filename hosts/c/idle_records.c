@@ -1,11 +1,10 @@
-/* That a call which looks a number up looks at no record past the last carrier present: those records are on pages that cannot be read, so
- * that one look further ends this program. */
+/* That a call which looks a number up, or for an opening, looks at no record past the last carrier present: those records are on pages that
+ * cannot be read, so that one look further ends this program. */
 #define _DEFAULT_SOURCE /* mmap's MAP_ANONYMOUS */
 #include "compare.h"
 #include "pages.h"
 
 #include <stddef.h>
-#include <string.h>
 
 enum { MOST = RONDAVITSE_MOST_CARRIERS, APART = 10 };
 
@@ -47,10 +46,26 @@ static void check_lookups(size_t count) {
     }
 }
 
+/* Behind the last one nobody is looked for, and each of the others has its follower right behind it. */
+static void check_openings(size_t count) {
+    const rondavitse_newcomer newcomer = {.speed = 0, .length = 0, .rate = 1};
+    const rondavitse_lane kept = standing(count);
+    const rondavitse_lane *lane = put_at_boundary(&kept);
+    const rondavitse_opening head = rondavitse_find_opening(lane, 1, 0, newcomer);
+    same("opening ahead of all", "exists", byte_of(&head.exists), true);
+    same("opening", "no", rondavitse_find_opening(lane, 0, count + 1, newcomer).no, RONDAVITSE_NUMBER_ABSENT);
+    for (uint64_t number = 1; number <= count; number++) {
+        const rondavitse_opening got = rondavitse_find_opening(lane, 0, number, newcomer);
+        same("opening", "no", got.no, RONDAVITSE_ACCEPTED);
+        same("opening", "exists", byte_of(&got.exists), number == count);
+    }
+}
+
 int main(void) {
     boundary = boundary_of(sizeof(rondavitse_lane), sizeof(rondavitse_lane));
     for (size_t count = 0; count <= MOST; count++) {
         check_lookups(count);
+        check_openings(count);
     }
     return verdict();
 }

@@ -150,6 +150,63 @@ static inline void check_entries(rondavitse_lane lane, rondavitse_carrier ahead,
     same("entries", "no of the one ahead", rondavitse_enter(&from_rear, ahead).no, safe ? 0 : RONDAVITSE_FOLLOWER_UNSAFE);
 }
 
+static inline uint64_t lower(uint64_t one, uint64_t other) {
+    return one < other ? one : other;
+}
+
+/* The positions gained until rest, cycle by cycle. */
+static inline uint64_t stop(uint64_t rate, uint64_t speed) {
+    uint64_t gained = 0;
+    while (speed > 0) {
+        const uint64_t braked = lower(rate, speed);
+        gained += 2 * speed - braked;
+        speed -= braked;
+    }
+    return gained;
+}
+
+/* The room with which one that gains so much until rest is level with the tail ahead, then or now. */
+static inline uint64_t level(uint64_t gained, uint64_t gained_ahead) {
+    return gained > gained_ahead ? gained - gained_ahead : 0;
+}
+
+/* What the opening should be in which the newcomer would have this place: its lowest position goes by the carrier then behind it, its highest
+ * by the one ahead. */
+static inline rondavitse_opening wanted_opening(const rondavitse_lane *lane, size_t place, rondavitse_newcomer newcomer) {
+    const rondavitse_row *row = &lane->rows[lane->surface];
+    uint64_t lowest = 0, past = lane->end;
+    if (place < lane->count) {
+        const rondavitse_record *behind = &lane->records[place];
+        const uint64_t gained = stop(lower(behind->rate, row->guaranteed), behind->speed);
+        lowest = behind->position + newcomer.length + level(gained, stop(row->hardest, newcomer.speed)) + 1;
+    }
+    if (place > 0) {
+        const rondavitse_record *ahead = &lane->records[place - 1];
+        const uint64_t gained = stop(lower(newcomer.rate, row->guaranteed), newcomer.speed);
+        const uint64_t back = ahead->length + level(gained, stop(row->hardest, ahead->speed));
+        past = lower(past, ahead->position > back ? ahead->position - back : 0);
+    }
+    if (lowest >= past) {
+        return (rondavitse_opening){.exists = false};
+    }
+    return (rondavitse_opening){.exists = true, .lowest = lowest, .highest = past - 1};
+}
+
+/* What the library gives for it. */
+static inline rondavitse_opening opening_at(const rondavitse_lane *lane, size_t place, rondavitse_newcomer newcomer) {
+    if (place == 0) {
+        return rondavitse_find_opening(lane, 1, 0, newcomer);
+    }
+    return rondavitse_find_opening(lane, 0, lane->records[place - 1].number, newcomer);
+}
+
+static inline void same_opening(const char *call, rondavitse_opening got, rondavitse_opening wanted) {
+    same(call, "no", got.no, wanted.no);
+    same(call, "exists", byte_of(&got.exists), wanted.exists);
+    same(call, "lowest", got.lowest, wanted.lowest);
+    same(call, "highest", got.highest, wanted.highest);
+}
+
 static inline uint32_t load(rondavitse_lane *lane) {
     char text[TABLE_BUFFER];
     const size_t length = table_text(text, TABLE_LINES, "");

@@ -23,6 +23,10 @@ FIELD(rondavitse_carrier, position, 8, 8);
 FIELD(rondavitse_carrier, speed, 16, 8);
 FIELD(rondavitse_carrier, length, 24, 8);
 FIELD(rondavitse_carrier, rate, 32, 8);
+SIZE(rondavitse_newcomer, 24);
+FIELD(rondavitse_newcomer, speed, 0, 8);
+FIELD(rondavitse_newcomer, length, 8, 8);
+FIELD(rondavitse_newcomer, rate, 16, 8);
 SIZE(rondavitse_record, 64);
 FIELD(rondavitse_record, number, 0, 8);
 FIELD(rondavitse_record, position, 8, 8);
@@ -45,6 +49,11 @@ FIELD(rondavitse_lane, records, 1600, 4096);
 SIZE(rondavitse_entered, 16);
 FIELD(rondavitse_entered, no, 0, 4);
 FIELD(rondavitse_entered, place, 8, 8);
+SIZE(rondavitse_opening, 24);
+FIELD(rondavitse_opening, no, 0, 4);
+FIELD(rondavitse_opening, exists, 4, 1);
+FIELD(rondavitse_opening, lowest, 8, 8);
+FIELD(rondavitse_opening, highest, 16, 8);
 SIZE(rondavitse_cycled, 24);
 FIELD(rondavitse_cycled, no, 0, 4);
 FIELD(rondavitse_cycled, word, 8, 8);
@@ -114,6 +123,30 @@ static void check_enter(void) {
     same("enter", "no", got.no, 0);
     same("enter", "place", got.place, middle);
     same_state("enter", &lane, &wanted);
+}
+
+/* Every gap and the head, on each row in force: the lowest position goes by the newcomer's speed and length, the highest by its speed and
+ * rate, and each of the three would be refused, or give others, in another one's place. */
+static void check_opening(void) {
+    const rondavitse_newcomer newcomer = {.speed = 0x0145, .length = 0x6789, .rate = 9};
+    for (uint64_t code = 0; code < SURFACES; code++) {
+        rondavitse_lane lane = lane_of(MOST);
+        lane.surface = code;
+        const rondavitse_lane kept = lane;
+        for (size_t place = 0; place <= MOST; place++) {
+            const rondavitse_opening wanted = wanted_opening(&lane, place, newcomer);
+            same("opening", "wanted", wanted.exists, true);
+            same_opening("opening", opening_at(&lane, place, newcomer), wanted);
+        }
+        same_opening("opening ahead of all", rondavitse_find_opening(&lane, 2, carrier_at(5).number, newcomer), wanted_opening(&lane, 0, newcomer));
+        same_words("opening", &lane, &kept);
+    }
+}
+
+static void check_no_opening(void) {
+    const rondavitse_lane lane = lane_near(), kept = lane;
+    same_opening("no opening", opening_at(&lane, 1, (rondavitse_newcomer){0, 100, 1}), (rondavitse_opening){.exists = false});
+    same_words("no opening", &lane, &kept);
 }
 
 static void check_leave(void) {
@@ -261,12 +294,6 @@ static void check_longest_text(void) {
     same("longest text", "length", rondavitse_lane_text(&lane, text, sizeof text).length, sizeof text);
 }
 
-static uint64_t stop_of(const rondavitse_stepped *stepped) {
-    unsigned char stop; /* a byte that is neither 0 nor 1 must not pass for true */
-    memcpy(&stop, &stepped->stop, 1);
-    return stop;
-}
-
 /* The second of two blocks, and then what follows it, which is no block. */
 static void check_step(void) {
     const size_t place = 40, at = 10;
@@ -280,14 +307,14 @@ static void check_step(void) {
     same("step", "written", got.written, strlen("ok=leave\n"));
     same("step", "bytes", (uint64_t)memcmp(out, "ok=leave\n", strlen("ok=leave\n")), 0);
     same("step", "no", got.no, 0);
-    same("step", "stop", stop_of(&got), 0);
+    same("step", "stop", byte_of(&got.stop), 0);
     same_state("step", &lane, &wanted);
     wanted = lane;
     got = rondavitse_step(&lane, (const uint8_t *)input, (size_t)length, got.next, out, sizeof out);
     same("malformed step", "next", got.next, (uint64_t)length - 1);
     same("malformed step", "written", got.written, strlen("no=8\n"));
     same("malformed step", "no", got.no, 0);
-    same("malformed step", "stop", stop_of(&got), 1);
+    same("malformed step", "stop", byte_of(&got.stop), 1);
     same_words("malformed step", &lane, &wanted);
 }
 
@@ -303,7 +330,7 @@ static void idle_step(uint32_t no, size_t at, size_t out_length) {
     same("idle step", "no", got.no, no);
     same("idle step", "next", got.next, at);
     same("idle step", "written", got.written, 0);
-    same("idle step", "stop", stop_of(&got), 1);
+    same("idle step", "stop", byte_of(&got.stop), 1);
     same("idle step", "bytes", (uint64_t)memcmp(out, kept_out, sizeof out), 0);
     same_words("idle step", &lane, &kept);
 }
@@ -323,6 +350,8 @@ int main(void) {
     check_start();
     check_load();
     check_enter();
+    check_opening();
+    check_no_opening();
     check_leave();
     check_read();
     check_cycle();

@@ -2,8 +2,6 @@
 #include "compare.h"
 #include "table.h"
 
-#include <string.h>
-
 enum { SPEED = 1000 };
 
 static rondavitse_lane dry_lane(void) {
@@ -100,6 +98,39 @@ static void check_rates(void) {
     }
 }
 
+/* Ahead of a moving carrier and not behind it, whose tail is at the start: which of the two was asked for can be told. */
+static void check_opening(uint64_t head, uint64_t number, rondavitse_newcomer newcomer, uint32_t no, bool exists) {
+    const rondavitse_lane lane = lane_of_one();
+    const rondavitse_opening got = rondavitse_find_opening(&lane, head, number, newcomer);
+    same("opening", "no", got.no, no);
+    same("opening", "exists", byte_of(&got.exists), exists);
+    same("opening", "lowest", got.lowest, exists ? SPEED * SPEED + newcomer.length + 1 : 0); /* the carrier brakes by 1 */
+    same("opening", "highest", got.highest, exists ? RONDAVITSE_FARTHEST_END - 1 : 0);
+}
+
+/* Each bit of every argument, with what is in range below it: a wide head is the head, any other number is refused past its range. */
+static void check_openings(void) {
+    const rondavitse_newcomer newcomer = {.speed = 0, .length = 100, .rate = 64};
+    check_opening(0, 1, newcomer, RONDAVITSE_ACCEPTED, false);
+    for (unsigned bit = 0; bit < 64; bit++) {
+        const uint64_t wide = UINT64_C(1) << bit;
+        const rondavitse_newcomer fast = {wide, 100, 64}, long_one = {0, wide, 64}, rated = {0, 100, wide};
+        check_opening(wide, 0, newcomer, RONDAVITSE_ACCEPTED, true);
+        check_opening(wide, 1, newcomer, RONDAVITSE_ACCEPTED, true);
+        check_opening(0, wide + 1, newcomer, bit < 16 ? RONDAVITSE_NUMBER_ABSENT : RONDAVITSE_NUMBER_OUT_OF_RANGE, false);
+        check_opening(0, 1, fast, wide <= RONDAVITSE_FASTEST ? RONDAVITSE_ACCEPTED : RONDAVITSE_SPEED_ABOVE_LIMIT, false);
+        check_opening(1, 0, long_one, bit < 16 ? RONDAVITSE_ACCEPTED : RONDAVITSE_LENGTH_TOO_LARGE, bit < 16);
+        check_opening(1, 0, rated, bit < 8 ? RONDAVITSE_ACCEPTED : RONDAVITSE_RATE_OUT_OF_RANGE, bit < 8);
+    }
+    for (unsigned bit = 17; bit < 64; bit++) {
+        const uint64_t wide = UINT64_C(1) << bit;
+        check_opening(1, 0, (rondavitse_newcomer){wide, 100, 64}, RONDAVITSE_SPEED_ABOVE_LIMIT, false);
+        check_opening(1, 0, (rondavitse_newcomer){0, wide + 100, 64}, RONDAVITSE_LENGTH_TOO_LARGE, false);
+        check_opening(1, 0, (rondavitse_newcomer){0, 100, wide + 64}, RONDAVITSE_RATE_OUT_OF_RANGE, false);
+    }
+    check_opening(1, 0, (rondavitse_newcomer){0, 100, 0}, RONDAVITSE_RATE_OUT_OF_RANGE, false);
+}
+
 static void check_surfaces(void) {
     const uint64_t wide = UINT64_C(1) << 32;
     for (uint64_t code = 0; code < RONDAVITSE_SURFACES; code++) {
@@ -151,6 +182,7 @@ int main(void) {
     check_all_units();
     check_lengths();
     check_rates();
+    check_openings();
     check_surfaces();
     check_table_numbers();
     check_floats();

@@ -34,21 +34,6 @@ static rondavitse_row row_of(uint64_t surface) {
     return empty_lane(surface).rows[surface];
 }
 
-static uint64_t lower(uint64_t one, uint64_t other) {
-    return one < other ? one : other;
-}
-
-/* The positions gained until rest, cycle by cycle. */
-static uint64_t stop(uint64_t rate, uint64_t speed) {
-    uint64_t gained = 0;
-    while (speed > 0) {
-        const uint64_t braked = lower(rate, speed);
-        gained += 2 * speed - braked;
-        speed -= braked;
-    }
-    return gained;
-}
-
 /* Document 01's figures: the bounds below are reckoned with these stops. */
 static void check_stops(void) {
     same("stop", "from 7 at 3", stop(3, 7), 17);
@@ -57,11 +42,6 @@ static void check_stops(void) {
     same("stop", "from 8192 at 1", stop(1, 8192), 67108864);
     same("stop", "from 96 at 64", stop(64, 96), 160);
     same("stop", "from 0 at 6", stop(6, 0), 0);
-}
-
-/* The room with which one that gains so much until rest is level with the tail ahead, then or now. */
-static uint64_t level(uint64_t gained, uint64_t gained_ahead) {
-    return gained > gained_ahead ? gained - gained_ahead : 0;
 }
 
 /* The most room with which the one behind is not safe. */

@@ -27,6 +27,12 @@ static void refused_enter(uint32_t no, rondavitse_carrier carrier, rondavitse_la
     same_words("refused enter", &lane, &kept);
 }
 
+static void refused_opening(uint32_t no, uint64_t head, uint64_t number, rondavitse_newcomer newcomer, rondavitse_lane lane) {
+    const rondavitse_lane kept = lane;
+    same_opening("refused opening", rondavitse_find_opening(&lane, head, number, newcomer), (rondavitse_opening){.no = no});
+    same_words("refused opening", &lane, &kept);
+}
+
 static void refused_named(uint32_t no, uint64_t number, rondavitse_lane lane) {
     const rondavitse_lane kept = lane;
     same("refused leave", "no", rondavitse_leave(&lane, number), no);
@@ -87,6 +93,8 @@ static void check_21(rondavitse_lane lane) {
     refused_surface(21, SURFACES, lane);
     refused_surface(21, ROAD.surface, lane); /* the lane is unsound with any code */
     refused_enter(21, (rondavitse_carrier){0, 0, 0, UINT64_MAX, 0}, lane);
+    refused_opening(21, 0, 0, (rondavitse_newcomer){0, UINT64_MAX, 0}, lane);
+    refused_opening(21, 1, 0, (rondavitse_newcomer){0, 0, 1}, lane); /* the lane is unsound for any newcomer */
     refused_named(21, 0, lane);
     refused_text(21, lane);
     refused_cycle(21, 3, no_sorts, 1, lane);
@@ -254,6 +262,41 @@ static void check_refused_entries(void) {
     refused_enter(26, (rondavitse_carrier){number, rear.position + longest, ROAD.limit, longest, 255}, lane);
 }
 
+/* Behind a carrier, and ahead of all with any number beside it: 6, then 33, then 35, on a full lane too. */
+static void check_refused_newcomers(rondavitse_lane lane) {
+    const uint64_t wide = UINT64_C(1) << 32, longest = RONDAVITSE_LONGEST_CARRIER, highest = RONDAVITSE_HIGHEST_RATE;
+    const uint64_t asked[][2] = {
+        {0, carrier_at(0).number}, {0, carrier_at(1).number}, {1, 0}, {1, RONDAVITSE_HIGHEST_NUMBER + 1}, {1, 1}, {1, carrier_at(1).number},
+        {wide, 0}, {UINT64_C(1) << 63, 0}, {UINT64_MAX, UINT64_MAX},
+    };
+    for (size_t i = 0; i < sizeof asked / sizeof asked[0]; i++) {
+        const uint64_t head = asked[i][0], number = asked[i][1];
+        refused_opening(6, head, number, (rondavitse_newcomer){ROAD.limit + 1, 0, 1}, lane);
+        refused_opening(6, head, number, (rondavitse_newcomer){wide, longest + 1, 0}, lane);
+        refused_opening(33, head, number, (rondavitse_newcomer){ROAD.limit, longest + 1, 1}, lane);
+        refused_opening(33, head, number, (rondavitse_newcomer){0, wide, 0}, lane);
+        refused_opening(35, head, number, (rondavitse_newcomer){ROAD.limit, longest, 0}, lane);
+        refused_opening(35, head, number, (rondavitse_newcomer){0, 0, highest + 1}, lane);
+        refused_opening(35, head, number, (rondavitse_newcomer){0, 0, wide + 1}, lane);
+    }
+}
+
+/* 4 and 24 come before them, for a carrier named alone. */
+static void check_refused_openings(void) {
+    const rondavitse_newcomer newcomers[] = {{0, 0, 1}, {ROAD.limit + 1, RONDAVITSE_LONGEST_CARRIER + 1, 0}};
+    for (size_t i = 0; i < sizeof newcomers / sizeof newcomers[0]; i++) {
+        refused_opening(4, 0, 0, newcomers[i], lane_of(2));
+        refused_opening(4, 0, RONDAVITSE_HIGHEST_NUMBER + 1, newcomers[i], lane_of(2));
+        refused_opening(4, 0, carrier_at(1).number + (UINT64_C(1) << 32), newcomers[i], lane_of(2));
+        refused_opening(24, 0, 1, newcomers[i], lane_of(2));
+        refused_opening(24, 0, RONDAVITSE_HIGHEST_NUMBER, newcomers[i], lane_of(2));
+        refused_opening(24, 0, carrier_at(2).number, newcomers[i], lane_of(2)); /* one that is on no lane of two */
+        refused_opening(24, 0, carrier_at(0).number, newcomers[i], lane_of(0));
+    }
+    check_refused_newcomers(lane_of(2));
+    check_refused_newcomers(lane_of(MOST));
+}
+
 static void check_refused_arguments(void) {
     const uint64_t wide = UINT64_C(1) << 32;
     const rondavitse_lane lane = lane_of(2);
@@ -289,6 +332,7 @@ int main(void) {
     check_refused_loads();
     check_refused_surfaces();
     check_refused_entries();
+    check_refused_openings();
     check_refused_arguments();
     check_refused_cycles();
     return verdict();
