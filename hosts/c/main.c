@@ -1,5 +1,6 @@
-/* A worked host: five minutes of a lane with an entry at its start, a side road, an exit and an end that carriers run out at, on surface
- * figures of the terminal's own; some trailers are loaded, and for a while it rains. It prints a summary that is the same in every run. */
+/* A worked host: five minutes of a lane with an entry at its start, a side road whose carriers wait for an opening, an exit and an end that
+ * carriers run out at, on surface figures of the terminal's own; some trailers are loaded, and for a while it rains. It prints a summary that is
+ * the same in every run. */
 #include "rondavitse.h"
 
 #include <math.h>
@@ -17,7 +18,9 @@ enum {
     RAIN_ENDS = 1700,
     LANE_END = 400 * METRE,
     SPEED_LIMIT = 20 * METRE_PER_SECOND,
-    SIDE_ROAD = 120 * METRE,
+    SIDE_ROAD_BEGINS = 110 * METRE, /* beside it carriers may drive in up to its end */
+    SIDE_ROAD_ENDS = 150 * METRE,
+    FIRST_ON_SIDE_ROAD = 1001, /* carriers there have numbers of their own */
     FULL = 24,              /* own braking rates of trailers: below the b of both surfaces, */
     HALF_FULL = 40,         /* of the dry one alone, */
     UNLOADED = 72,          /* and of neither */
@@ -39,8 +42,11 @@ static const char TABLE[] = "b=58\nB=132\nA=30\n"
 typedef struct {
     rondavitse_lane lane; /* changed by the supervisor alone */
     uint64_t next_number;
+    uint64_t next_on_side_road;
+    bool side_road_taken;               /* by a carrier that waits to drive in */
     unsigned admitted, replaced, replaced_loaded, left, gone;
-    unsigned refused[LAST_REFUSAL + 1]; /* entries, by the refusal's number */
+    unsigned refused[LAST_REFUSAL + 1]; /* entries at the start, by the refusal's number */
+    unsigned ahead_of_all, unopened;    /* carriers in from the side road that became the foremost, and questions there without an opening */
     unsigned changed, postponed;        /* changes of surface accepted, and refused with 34 */
     double closest;                     /* the least distance to the tail ahead, m */
     double farthest;                    /* where a front has been, m */
@@ -70,7 +76,7 @@ static uint32_t load(host *h, size_t length) {
 /* The codes mean the table's rows from the next start on, so it is loaded before. */
 static void start(host *h) {
     const rondavitse_road road = {.surface = DRY, .end = LANE_END, .limit = SPEED_LIMIT};
-    *h = (host){.next_number = 1, .closest = INFINITY};
+    *h = (host){.next_number = 1, .next_on_side_road = FIRST_ON_SIDE_ROAD, .closest = INFINITY};
     rondavitse_empty(&h->lane);
     expect_accepted("load", load(h, strlen(TABLE)));
     expect_accepted("start", rondavitse_start(&h->lane, road, 0));
@@ -116,12 +122,12 @@ static uint64_t rate_of(uint64_t number) {
     }
 }
 
-/* A carrier that is refused waits with its number for the next try. */
-static void try_entry(host *h, uint64_t position, uint64_t speed) {
+/* A carrier that is refused at the lane's start waits with its number for the next try. */
+static void try_start(host *h) {
     const rondavitse_carrier carrier = {
         .number = h->next_number,
-        .position = position,
-        .speed = speed,
+        .position = 0,
+        .speed = 14 * METRE_PER_SECOND,
         .length = length_of(h->next_number),
         .rate = rate_of(h->next_number),
     };
@@ -134,15 +140,61 @@ static void try_entry(host *h, uint64_t position, uint64_t speed) {
     }
 }
 
+/* What there is beside the side road of the gap behind the last carrier that has passed it, or ahead of all. */
+static rondavitse_opening opening_at_side_road(const host *h, rondavitse_newcomer newcomer) {
+    uint64_t head = 1, number = 0;
+    for (size_t place = 0; place < h->lane.count && h->lane.records[place].position > SIDE_ROAD_ENDS; place++) {
+        head = 0;
+        number = h->lane.records[place].number;
+    }
+    rondavitse_opening opening = rondavitse_find_opening(&h->lane, head, number, newcomer);
+    expect_accepted("find opening", opening.no);
+    if (opening.lowest < SIDE_ROAD_BEGINS) {
+        opening.lowest = SIDE_ROAD_BEGINS;
+    }
+    if (opening.highest > SIDE_ROAD_ENDS) {
+        opening.highest = SIDE_ROAD_ENDS;
+    }
+    opening.exists = opening.exists && opening.lowest <= opening.highest;
+    return opening;
+}
+
+/* The carrier on the side road drives in halfway between the ends of an opening. Where there is none, it waits and asks in the next cycle. */
+static void try_side_road(host *h) {
+    const uint64_t number = h->next_on_side_road;
+    const rondavitse_newcomer newcomer = {.speed = 10 * METRE_PER_SECOND, .length = length_of(number), .rate = rate_of(number)};
+    const rondavitse_opening opening = opening_at_side_road(h, newcomer);
+    if (!opening.exists) {
+        h->unopened++;
+        return;
+    }
+    const rondavitse_carrier carrier = {
+        .number = number,
+        .position = opening.lowest + (opening.highest - opening.lowest) / 2,
+        .speed = newcomer.speed,
+        .length = newcomer.length,
+        .rate = newcomer.rate,
+    };
+    const rondavitse_entered answer = rondavitse_enter(&h->lane, carrier);
+    expect_accepted("enter in an opening", answer.no); /* its number is new, and so many that the lane is full do not fit on it */
+    h->next_on_side_road++;
+    h->side_road_taken = false;
+    h->admitted++;
+    h->ahead_of_all += answer.place == 0;
+}
+
 static void let_carriers_in(host *h, int cycle) {
+    if (cycle % 29 == 5) {
+        h->side_road_taken = true;
+    }
     if (awaits_surface(h, cycle)) {
         return;
     }
-    if (cycle % 16 == 0) {
-        try_entry(h, 0, 14 * METRE_PER_SECOND);
+    if (cycle % 32 == 0) {
+        try_start(h);
     }
-    if (cycle % 13 == 5) {
-        try_entry(h, SIDE_ROAD, 10 * METRE_PER_SECOND);
+    if (h->side_road_taken) {
+        try_side_road(h);
     }
 }
 
@@ -277,9 +329,11 @@ static void print_summary(const host *h) {
     printf("entries admitted: %u\n", h->admitted);
     for (unsigned no = 1; no <= LAST_REFUSAL; no++) {
         if (h->refused[no] > 0) {
-            printf("entries refused with %u (%s): %u\n", no, rondavitse_words(no), h->refused[no]);
+            printf("entries at the start refused with %u (%s): %u\n", no, rondavitse_words(no), h->refused[no]);
         }
     }
+    printf("carriers in from the side road: %u, ahead of all: %u\n", (unsigned)(h->next_on_side_road - FIRST_ON_SIDE_ROAD), h->ahead_of_all);
+    printf("questions there without an opening: %u\n", h->unopened);
     printf("changes of surface: %u\n", h->changed);
     printf("changes of surface refused with %d (%s): %u\n", RONDAVITSE_SURFACE_UNSAFE, rondavitse_words(RONDAVITSE_SURFACE_UNSAFE),
            h->postponed);

@@ -29,6 +29,16 @@ pub struct Carrier {
     pub rate: u64,
 }
 
+/// What is known of a newcomer before it has a number and a place.
+#[repr(C)]
+#[derive(Clone, Copy, Debug, Default, PartialEq, Eq)]
+pub struct Newcomer {
+    pub speed: u64,
+    pub length: u64,
+    /// Its own, as a carrier's.
+    pub rate: u64,
+}
+
 /// What a surface code stands for, in 1/16 m/s²: guaranteed braking, hardest
 /// braking and most acceleration.
 #[repr(C)]
@@ -72,6 +82,16 @@ pub struct Lane {
 pub struct Entered {
     pub no: u32,
     pub place: usize,
+}
+
+#[repr(C)]
+#[derive(Clone, Copy, Debug, PartialEq, Eq)]
+pub struct Opening {
+    pub no: u32,
+    /// Where it does not, both are 0.
+    pub exists: bool,
+    pub lowest: u64,
+    pub highest: u64,
 }
 
 #[repr(C)]
@@ -139,6 +159,12 @@ extern "C" {
     pub fn rondavitse_start(lane: &mut Lane, road: Road, first: u64) -> u32;
     pub fn rondavitse_surface(lane: &mut Lane, surface: u64) -> u32;
     pub fn rondavitse_enter(lane: &mut Lane, carrier: Carrier) -> Entered;
+    pub fn rondavitse_find_opening(
+        lane: &Lane,
+        head: u64,
+        number: u64,
+        newcomer: Newcomer,
+    ) -> Opening;
     pub fn rondavitse_leave(lane: &mut Lane, number: u64) -> u32;
     pub fn rondavitse_cycle(
         lane: &mut Lane,

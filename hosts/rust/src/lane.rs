@@ -2,8 +2,17 @@
 
 use crate::binding::{self, *};
 use crate::refusal::Refusal;
+use std::ops::RangeInclusive;
 
-pub use crate::binding::{Carrier, Reading, Road, MOST_CARRIERS};
+pub use crate::binding::{Carrier, Newcomer, Reading, Road, MOST_CARRIERS};
+
+/// Where one could enter.
+#[derive(Clone, Copy, Debug, PartialEq, Eq)]
+pub enum Gap {
+    AheadOfAll,
+    /// Directly behind the carrier of this number.
+    Behind(u64),
+}
 
 /// What a carrier would like to do in the next cycle.
 #[derive(Clone, Copy, Debug, PartialEq)]
@@ -83,6 +92,23 @@ impl Lane {
         let answer = unsafe { rondavitse_enter(&mut self.0, carrier) };
         Refusal::check(answer.no)?;
         Ok(answer.place)
+    }
+
+    /// The positions of a gap at which a newcomer could enter, if there are
+    /// any: from the first to the last, until the lane is changed, an entry
+    /// with these values is refused by a full lane or a number present alone.
+    pub fn opening(
+        &self,
+        gap: Gap,
+        newcomer: Newcomer,
+    ) -> Result<Option<RangeInclusive<u64>>, Refusal> {
+        let (head, number) = match gap {
+            Gap::AheadOfAll => (1, 0),
+            Gap::Behind(number) => (0, number),
+        };
+        let answer = unsafe { rondavitse_find_opening(&self.0, head, number, newcomer) };
+        Refusal::check(answer.no)?;
+        Ok(answer.exists.then_some(answer.lowest..=answer.highest))
     }
 
     /// Takes a carrier out.

@@ -1,12 +1,12 @@
 //! A worked host: five minutes of a lane with an entry at its start, a side
-//! road, an exit and an end that carriers run out at, on surface figures of the
-//! terminal's own; some trailers are loaded, and for a while it rains. It prints
-//! a summary that is the same in every run, and the same as that of the host in
-//! C.
+//! road whose carriers wait for an opening, an exit and an end that carriers run
+//! out at, on surface figures of the terminal's own; some trailers are loaded,
+//! and for a while it rains. It prints a summary that is the same in every run,
+//! and the same as that of the host in C.
 
-use rondavitse::{Carrier, Lane, Refusal, Road, Wish};
+use rondavitse::{Carrier, Gap, Lane, Newcomer, Refusal, Road, Wish};
 use std::collections::BTreeMap;
-use std::ops::Range;
+use std::ops::{Range, RangeInclusive};
 
 /// Positions count 1/2048 m, speeds 1/128 m/s.
 const METRE: u64 = 2048;
@@ -36,16 +36,26 @@ b=1\nB=255\nA=1\n";
 const FULL: u64 = 24;
 const HALF_FULL: u64 = 40;
 const UNLOADED: u64 = 72;
-const SIDE_ROAD: u64 = 120 * METRE;
+/// Beside it carriers may drive in.
+const SIDE_ROAD: RangeInclusive<u64> = 110 * METRE..=150 * METRE;
+/// Carriers there have numbers of their own.
+const FIRST_ON_SIDE_ROAD: u64 = 1_001;
 /// In metres.
 const EXIT_POSITION: f64 = 300.0;
 
 struct Host {
     lane: Lane,
     next_number: u64,
+    next_on_side_road: u64,
+    /// By a carrier that waits to drive in.
+    side_road_taken: bool,
     admitted: u32,
-    /// Entries, by their refusal.
+    /// Entries at the start, by their refusal.
     refused: BTreeMap<Refusal, u32>,
+    /// Carriers in from the side road that became the foremost, and questions
+    /// there without an opening.
+    ahead_of_all: u32,
+    unopened: u32,
     /// Changes of surface accepted, and refused with 34.
     changed: u32,
     postponed: u32,
@@ -71,8 +81,12 @@ impl Host {
         Ok(Host {
             lane,
             next_number: 1,
+            next_on_side_road: FIRST_ON_SIDE_ROAD,
+            side_road_taken: false,
             admitted: 0,
             refused: BTreeMap::new(),
+            ahead_of_all: 0,
+            unopened: 0,
             changed: 0,
             postponed: 0,
             replaced: 0,
@@ -104,34 +118,81 @@ impl Host {
         Ok(())
     }
 
-    fn let_carriers_in(&mut self, cycle: u32) {
+    fn let_carriers_in(&mut self, cycle: u32) -> Result<(), Refusal> {
+        if cycle % 29 == 5 {
+            self.side_road_taken = true;
+        }
         if self.awaits_surface(cycle) {
-            return;
+            return Ok(());
         }
-        if cycle.is_multiple_of(16) {
-            self.try_entry(0, 14 * METRE_PER_SECOND);
+        if cycle.is_multiple_of(32) {
+            self.try_start();
         }
-        if cycle % 13 == 5 {
-            self.try_entry(SIDE_ROAD, 10 * METRE_PER_SECOND);
+        if self.side_road_taken {
+            self.try_side_road()?;
         }
+        Ok(())
     }
 
-    /// A carrier that is refused waits with its number for the next try.
-    fn try_entry(&mut self, position: u64, speed: u64) {
-        let newcomer = Carrier {
+    /// A carrier that is refused at the lane's start waits with its number for
+    /// the next try.
+    fn try_start(&mut self) {
+        let carrier = Carrier {
             number: self.next_number,
-            position,
-            speed,
+            position: 0,
+            speed: 14 * METRE_PER_SECOND,
             length: length_of(self.next_number),
             rate: rate_of(self.next_number),
         };
-        match self.lane.enter(newcomer) {
+        match self.lane.enter(carrier) {
             Ok(_) => {
                 self.next_number += 1;
                 self.admitted += 1;
             }
             Err(refusal) => *self.refused.entry(refusal).or_default() += 1,
         }
+    }
+
+    /// What there is beside the side road of the gap behind the last carrier
+    /// that has passed it, or ahead of all.
+    fn opening_at_side_road(
+        &self,
+        newcomer: Newcomer,
+    ) -> Result<Option<RangeInclusive<u64>>, Refusal> {
+        let (begin, end) = SIDE_ROAD.into_inner();
+        let passed = self.lane.carriers().take_while(|c| c.position > end).last();
+        let gap = passed.map_or(Gap::AheadOfAll, |c| Gap::Behind(c.number));
+        let opening = self.lane.opening(gap, newcomer)?;
+        let beside = opening.map(|o| begin.max(*o.start())..=end.min(*o.end()));
+        Ok(beside.filter(|positions| !positions.is_empty()))
+    }
+
+    /// The carrier on the side road drives in halfway between the ends of an
+    /// opening. Where there is none, it waits and asks in the next cycle.
+    fn try_side_road(&mut self) -> Result<(), Refusal> {
+        let number = self.next_on_side_road;
+        let newcomer = Newcomer {
+            speed: 10 * METRE_PER_SECOND,
+            length: length_of(number),
+            rate: rate_of(number),
+        };
+        let Some(opening) = self.opening_at_side_road(newcomer)? else {
+            self.unopened += 1;
+            return Ok(());
+        };
+        // Its number is new, and so many that the lane is full do not fit on it.
+        let place = self.lane.enter(Carrier {
+            number,
+            position: opening.start() + (opening.end() - opening.start()) / 2,
+            speed: newcomer.speed,
+            length: newcomer.length,
+            rate: newcomer.rate,
+        })?;
+        self.next_on_side_road += 1;
+        self.side_road_taken = false;
+        self.admitted += 1;
+        self.ahead_of_all += u32::from(place == 0);
+        Ok(())
     }
 
     /// A word with a bit for each place that has a loaded trailer.
@@ -192,8 +253,14 @@ impl Host {
         println!("cycles run: {CYCLES}");
         println!("entries admitted: {}", self.admitted);
         for (refusal, times) in &self.refused {
-            println!("entries refused with {refusal}: {times}");
+            println!("entries at the start refused with {refusal}: {times}");
         }
+        println!(
+            "carriers in from the side road: {}, ahead of all: {}",
+            self.next_on_side_road - FIRST_ON_SIDE_ROAD,
+            self.ahead_of_all
+        );
+        println!("questions there without an opening: {}", self.unopened);
         println!("changes of surface: {}", self.changed);
         let (refusal, times) = (Refusal::SurfaceUnsafe, self.postponed);
         println!("changes of surface refused with {refusal}: {times}");
@@ -260,7 +327,7 @@ fn main() -> Result<(), Refusal> {
     let mut host = Host::started()?;
     for cycle in 0..CYCLES {
         host.try_surface(cycle)?;
-        host.let_carriers_in(cycle);
+        host.let_carriers_in(cycle)?;
         host.drive(cycle)?;
         host.watch()?;
         host.let_carriers_out()?;
