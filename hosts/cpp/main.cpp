@@ -39,6 +39,14 @@ class Lane {
         return answer.place;
     }
 
+    rondavitse_opening opening_behind(uint64_t number, rondavitse_newcomer newcomer) const {
+        return checked(rondavitse_find_opening(&words, 0, number, newcomer));
+    }
+
+    rondavitse_opening opening_ahead_of_all(rondavitse_newcomer newcomer) const {
+        return checked(rondavitse_find_opening(&words, 1, 0, newcomer));
+    }
+
     rondavitse_cycled cycle(const std::vector<Wish> &wishes) {
         std::array<uint8_t, RONDAVITSE_MOST_CARRIERS> sorts; // never null, as a vector's data may be; past their end the call gives 27
         std::array<uint32_t, RONDAVITSE_MOST_CARRIERS> values;
@@ -64,6 +72,11 @@ class Lane {
         }
     }
 
+    static rondavitse_opening checked(rondavitse_opening answer) {
+        check(answer.no);
+        return answer;
+    }
+
     rondavitse_lane words;
 };
 
@@ -82,6 +95,19 @@ static void try_surface(Lane &lane, uint64_t surface) {
     } catch (const Refused &refusal) {
         std::printf("surface %" PRIu64 " refused by %" PRIu32 ": %s\n", surface, refusal.no, refusal.what());
     }
+}
+
+// A carrier from a side road drives in behind another one, halfway between the ends of the opening; while there is none it waits a cycle, in
+// which the foremost speeds up, and asks again.
+static void enter_behind(Lane &lane, uint64_t ahead, uint64_t number, const rondavitse_newcomer &newcomer) {
+    rondavitse_opening opening = lane.opening_behind(ahead, newcomer);
+    while (!opening.exists) {
+        std::printf("no opening behind carrier %" PRIu64 ": waits a cycle\n", ahead);
+        lane.cycle({{RONDAVITSE_UNITS, rondavitse_units(10)}, {RONDAVITSE_HOLD, 0}});
+        opening = lane.opening_behind(ahead, newcomer);
+    }
+    std::printf("opening behind carrier %" PRIu64 ": %" PRIu64 " to %" PRIu64 "\n", ahead, opening.lowest, opening.highest);
+    try_entry(lane, {number, opening.lowest + (opening.highest - opening.lowest) / 2, newcomer.speed, newcomer.length, newcomer.rate});
 }
 
 int main() {
@@ -107,7 +133,17 @@ int main() {
     }
     try_surface(lane, UINT64_C(4294967297)); // 1 if it were cut
     try_surface(lane, 1);
-    for (const uint64_t number : {7, 8}) {
+    const rondavitse_newcomer newcomer = {8, 50, 4};
+    for (const uint64_t ahead : {UINT64_C(4294967303), UINT64_C(7)}) { // the first would be 7 if it were cut
+        try {
+            enter_behind(lane, ahead, 12, newcomer);
+        } catch (const Refused &refusal) {
+            std::printf("opening behind carrier %" PRIu64 " refused by %" PRIu32 ": %s\n", ahead, refusal.no, refusal.what());
+        }
+    }
+    const rondavitse_opening opening = lane.opening_ahead_of_all(newcomer);
+    std::printf("opening ahead of all: %" PRIu64 " to %" PRIu64 "\n", opening.lowest, opening.highest);
+    for (const uint64_t number : {7, 12, 8}) {
         const rondavitse_reading reading = lane.read(number);
         std::printf("carrier %" PRIu64 ": %.11f m, %.7f m/s\n", number, reading.position, reading.speed);
     }

@@ -4,7 +4,7 @@ Usage: host.py SHARED_LIBRARY
 """
 import ctypes
 import sys
-from ctypes import byref, c_char_p, c_double, c_size_t, c_uint8, c_uint32, c_uint64
+from ctypes import byref, c_bool, c_char_p, c_double, c_size_t, c_uint8, c_uint32, c_uint64
 
 VERSION, SURFACES, WORDS_OF_A_LANE = 7, 8, 712  # of the interface that the structs below are of
 UNITS, HOLD = 0, 3
@@ -17,7 +17,9 @@ def struct(**fields):
 Lane = c_uint64 * WORDS_OF_A_LANE
 Road = struct(surface=c_uint64, end=c_uint64, limit=c_uint64)
 Carrier = struct(number=c_uint64, position=c_uint64, speed=c_uint64, length=c_uint64, rate=c_uint64)
+Newcomer = struct(speed=c_uint64, length=c_uint64, rate=c_uint64)
 Entered = struct(no=c_uint32, place=c_size_t)
+Opening = struct(no=c_uint32, exists=c_bool, lowest=c_uint64, highest=c_uint64)
 Cycled = struct(no=c_uint32, word=c_uint64, replaced=c_uint32, gone=c_uint32)
 ReadOut = struct(no=c_uint32, position=c_double, speed=c_double)
 
@@ -70,6 +72,17 @@ class Supervisor:
     def enter(self, number, position, speed, length, rate):
         return self.answer("enter", Entered, Carrier(*map(wide, (number, position, speed, length, rate)))).place
 
+    def opening_behind(self, number, *newcomer):
+        return self.find_opening(0, number, newcomer)
+
+    def opening_ahead_of_all(self, *newcomer):
+        return self.find_opening(1, 0, newcomer)
+
+    def find_opening(self, head, number, newcomer):
+        """The lowest and the highest position; None where there is none."""
+        answer = self.answer("find_opening", Opening, wide(head), wide(number), Newcomer(*map(wide, newcomer)))
+        return (answer.lowest, answer.highest) if answer.exists else None
+
     def cycle(self, wishes):
         count = c_size_t(len(wishes))
         sorts, values = (array(element, [wish[i] for wish in wishes]) for i, element in enumerate((c_uint8, c_uint32)))
@@ -94,6 +107,16 @@ def try_surface(lane, surface):
         print("surface {} refused by {}: {}".format(surface, *refusal.args))
 
 
+def enter_behind(lane, ahead, number, speed, length, rate):
+    """A carrier from a side road drives in behind another one, halfway between the ends of the opening; while there is none it waits a cycle, in
+    which the foremost speeds up, and asks again."""
+    while not (opening := lane.opening_behind(ahead, speed, length, rate)):
+        print(f"no opening behind carrier {ahead}: waits a cycle")
+        lane.cycle([(UNITS, units(10)), (HOLD, 0)])
+    print("opening behind carrier {}: {} to {}".format(ahead, *opening))
+    try_entry(lane, number, sum(opening) // 2, speed, length, rate)
+
+
 def main(path):
     dry, wet = b"b=60\nB=120\nA=30\n", b"b=20\nB=80\nA=10\n"
     table = dry + wet * (SURFACES - 1)  # of a terminal on which all surfaces but the dry one are alike
@@ -113,7 +136,13 @@ def main(path):
             print("cycle refused by {}: {}".format(*refusal.args))
     try_surface(lane, 4294967297)  # 1 if it were cut
     try_surface(lane, 1)
-    for number in (7, 8):
+    for ahead in (4294967303, 7):  # the first would be 7 if it were cut
+        try:
+            enter_behind(lane, ahead, 12, 8, 50, 4)
+        except Refused as refusal:
+            print("opening behind carrier {} refused by {}: {}".format(ahead, *refusal.args))
+    print("opening ahead of all: {} to {}".format(*lane.opening_ahead_of_all(8, 50, 4)))
+    for number in (7, 12, 8):
         reading = lane.read(number)
         print(f"carrier {number}: {reading.position:.11f} m, {reading.speed:.7f} m/s")
 
