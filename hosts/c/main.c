@@ -46,7 +46,8 @@ typedef struct {
     bool side_road_taken;               /* by a carrier that waits to drive in */
     unsigned admitted, replaced, replaced_loaded, left, gone;
     unsigned refused[LAST_REFUSAL + 1]; /* entries at the start, by the refusal's number */
-    unsigned ahead_of_all, unopened;    /* carriers in from the side road that became the foremost, and questions there without an opening */
+    unsigned ahead_of_all;              /* carriers in from the side road that became the foremost */
+    unsigned unopened, out_of_reach;    /* questions there without an opening, and with one that is not beside it */
     unsigned changed, postponed;        /* changes of surface accepted, and refused with 34 */
     double closest;                     /* the least distance to the tail ahead, m */
     double farthest;                    /* where a front has been, m */
@@ -140,47 +141,49 @@ static void try_start(host *h) {
     }
 }
 
-/* What there is beside the side road of the gap behind the last carrier that has passed it, or ahead of all. */
+/* That of the gap behind the last carrier that has passed the side road, or ahead of all where none has. */
 static rondavitse_opening opening_at_side_road(const host *h, rondavitse_newcomer newcomer) {
     uint64_t head = 1, number = 0;
     for (size_t place = 0; place < h->lane.count && h->lane.records[place].position > SIDE_ROAD_ENDS; place++) {
         head = 0;
         number = h->lane.records[place].number;
     }
-    rondavitse_opening opening = rondavitse_find_opening(&h->lane, head, number, newcomer);
-    expect_accepted("find opening", opening.no);
-    if (opening.lowest < SIDE_ROAD_BEGINS) {
-        opening.lowest = SIDE_ROAD_BEGINS;
-    }
-    if (opening.highest > SIDE_ROAD_ENDS) {
-        opening.highest = SIDE_ROAD_ENDS;
-    }
-    opening.exists = opening.exists && opening.lowest <= opening.highest;
-    return opening;
+    const rondavitse_opening answer = rondavitse_find_opening(&h->lane, head, number, newcomer);
+    expect_accepted("find opening", answer.no);
+    return answer;
 }
 
-/* The carrier on the side road drives in halfway between the ends of an opening. Where there is none, it waits and asks in the next cycle. */
-static void try_side_road(host *h) {
-    const uint64_t number = h->next_on_side_road;
-    const rondavitse_newcomer newcomer = {.speed = 10 * METRE_PER_SECOND, .length = length_of(number), .rate = rate_of(number)};
-    const rondavitse_opening opening = opening_at_side_road(h, newcomer);
-    if (!opening.exists) {
-        h->unopened++;
-        return;
-    }
+/* A carrier may drive in anywhere in an opening. It can't be refused there: its number is new, and 64 carriers do not fit on this lane. */
+static void leave_side_road(host *h, uint64_t position, rondavitse_newcomer newcomer) {
     const rondavitse_carrier carrier = {
-        .number = number,
-        .position = opening.lowest + (opening.highest - opening.lowest) / 2,
+        .number = h->next_on_side_road,
+        .position = position,
         .speed = newcomer.speed,
         .length = newcomer.length,
         .rate = newcomer.rate,
     };
     const rondavitse_entered answer = rondavitse_enter(&h->lane, carrier);
-    expect_accepted("enter in an opening", answer.no); /* its number is new, and so many that the lane is full do not fit on it */
+    expect_accepted("enter in an opening", answer.no);
     h->next_on_side_road++;
     h->side_road_taken = false;
     h->admitted++;
     h->ahead_of_all += answer.place == 0;
+}
+
+/* The carrier there takes the middle of what is beside the road of an opening. Where there is nothing it waits, and asks in the next cycle. */
+static void try_side_road(host *h) {
+    const uint64_t number = h->next_on_side_road;
+    const rondavitse_newcomer newcomer = {.speed = 10 * METRE_PER_SECOND, .length = length_of(number), .rate = rate_of(number)};
+    const rondavitse_opening opening = opening_at_side_road(h, newcomer);
+    const uint64_t lowest = opening.lowest > SIDE_ROAD_BEGINS ? opening.lowest : SIDE_ROAD_BEGINS;
+    const uint64_t highest = opening.highest < SIDE_ROAD_ENDS ? opening.highest : SIDE_ROAD_ENDS;
+    if (!opening.exists) {
+        h->unopened++;
+    } else if (lowest > highest) {
+        h->out_of_reach++;
+    } else {
+        leave_side_road(h, lowest + (highest - lowest) / 2, newcomer);
+    }
 }
 
 static void let_carriers_in(host *h, int cycle) {
@@ -321,6 +324,15 @@ static void try_table(host *h, const char *table, size_t length) {
     }
 }
 
+/* A question that is refused says nothing of the lane. */
+static void try_opening(const host *h, const char *gap, uint64_t number) {
+    const rondavitse_newcomer newcomer = {.speed = 0, .length = 0, .rate = UNLOADED};
+    const uint32_t no = rondavitse_find_opening(&h->lane, 0, number, newcomer).no;
+    if (no != RONDAVITSE_ACCEPTED) {
+        printf("%s refused with %u (%s)\n", gap, (unsigned)no, rondavitse_words(no));
+    }
+}
+
 static void print_summary(const host *h) {
     uint8_t text[RONDAVITSE_LONGEST_TEXT];
     const rondavitse_listed answer = rondavitse_lane_text(&h->lane, text, sizeof text);
@@ -333,7 +345,7 @@ static void print_summary(const host *h) {
         }
     }
     printf("carriers in from the side road: %u, ahead of all: %u\n", (unsigned)(h->next_on_side_road - FIRST_ON_SIDE_ROAD), h->ahead_of_all);
-    printf("questions there without an opening: %u\n", h->unopened);
+    printf("questions there without an opening: %u, with one out of reach: %u\n", h->unopened, h->out_of_reach);
     printf("changes of surface: %u\n", h->changed);
     printf("changes of surface refused with %d (%s): %u\n", RONDAVITSE_SURFACE_UNSAFE, rondavitse_words(RONDAVITSE_SURFACE_UNSAFE),
            h->postponed);
@@ -361,6 +373,7 @@ int main(void) {
     }
     try_table(&h, "table on a lane in use", strlen(TABLE));
     try_table(&h, "table cut short", strlen(TABLE) - 1);
+    try_opening(&h, "opening behind a carrier that is gone", 1);
     print_summary(&h);
     return EXIT_SUCCESS;
 }

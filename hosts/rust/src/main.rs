@@ -52,10 +52,11 @@ struct Host {
     admitted: u32,
     /// Entries at the start, by their refusal.
     refused: BTreeMap<Refusal, u32>,
-    /// Carriers in from the side road that became the foremost, and questions
-    /// there without an opening.
+    /// Carriers in from the side road that became the foremost.
     ahead_of_all: u32,
+    /// Questions there without an opening, and with one that is not beside it.
     unopened: u32,
+    out_of_reach: u32,
     /// Changes of surface accepted, and refused with 34.
     changed: u32,
     postponed: u32,
@@ -87,6 +88,7 @@ impl Host {
             refused: BTreeMap::new(),
             ahead_of_all: 0,
             unopened: 0,
+            out_of_reach: 0,
             changed: 0,
             postponed: 0,
             replaced: 0,
@@ -153,37 +155,22 @@ impl Host {
         }
     }
 
-    /// What there is beside the side road of the gap behind the last carrier
-    /// that has passed it, or ahead of all.
-    fn opening_at_side_road(
-        &self,
-        newcomer: Newcomer,
-    ) -> Result<Option<RangeInclusive<u64>>, Refusal> {
-        let (begin, end) = SIDE_ROAD.into_inner();
-        let passed = self.lane.carriers().take_while(|c| c.position > end).last();
-        let gap = passed.map_or(Gap::AheadOfAll, |c| Gap::Behind(c.number));
-        let opening = self.lane.opening(gap, newcomer)?;
-        let beside = opening.map(|o| begin.max(*o.start())..=end.min(*o.end()));
-        Ok(beside.filter(|positions| !positions.is_empty()))
+    /// The gap behind the last carrier that has passed the side road, or ahead
+    /// of all where none has.
+    fn gap_at_side_road(&self) -> Gap {
+        let carriers = self.lane.carriers();
+        let passed = carriers.take_while(|carrier| carrier.position > *SIDE_ROAD.end());
+        passed
+            .last()
+            .map_or(Gap::AheadOfAll, |carrier| Gap::Behind(carrier.number))
     }
 
-    /// The carrier on the side road drives in halfway between the ends of an
-    /// opening. Where there is none, it waits and asks in the next cycle.
-    fn try_side_road(&mut self) -> Result<(), Refusal> {
-        let number = self.next_on_side_road;
-        let newcomer = Newcomer {
-            speed: 10 * METRE_PER_SECOND,
-            length: length_of(number),
-            rate: rate_of(number),
-        };
-        let Some(opening) = self.opening_at_side_road(newcomer)? else {
-            self.unopened += 1;
-            return Ok(());
-        };
-        // Its number is new, and so many that the lane is full do not fit on it.
+    /// A carrier may drive in anywhere in an opening. It can't be refused there:
+    /// its number is new, and 64 carriers do not fit on this lane.
+    fn leave_side_road(&mut self, position: u64, newcomer: Newcomer) -> Result<(), Refusal> {
         let place = self.lane.enter(Carrier {
-            number,
-            position: opening.start() + (opening.end() - opening.start()) / 2,
+            number: self.next_on_side_road,
+            position,
             speed: newcomer.speed,
             length: newcomer.length,
             rate: newcomer.rate,
@@ -193,6 +180,27 @@ impl Host {
         self.admitted += 1;
         self.ahead_of_all += u32::from(place == 0);
         Ok(())
+    }
+
+    /// The carrier there takes the middle of what is beside the road of an
+    /// opening. Where there is nothing it waits, and asks in the next cycle.
+    fn try_side_road(&mut self) -> Result<(), Refusal> {
+        let newcomer = Newcomer {
+            speed: 10 * METRE_PER_SECOND,
+            length: length_of(self.next_on_side_road),
+            rate: rate_of(self.next_on_side_road),
+        };
+        let Some(opening) = self.lane.opening(self.gap_at_side_road(), newcomer)? else {
+            self.unopened += 1;
+            return Ok(());
+        };
+        let lowest = *opening.start().max(SIDE_ROAD.start());
+        let highest = *opening.end().min(SIDE_ROAD.end());
+        if lowest > highest {
+            self.out_of_reach += 1;
+            return Ok(());
+        }
+        self.leave_side_road(lowest + (highest - lowest) / 2, newcomer)
     }
 
     /// A word with a bit for each place that has a loaded trailer.
@@ -249,6 +257,18 @@ impl Host {
         }
     }
 
+    /// A question that is refused says nothing of the lane.
+    fn try_opening(&self, name: &str, gap: Gap) {
+        let newcomer = Newcomer {
+            speed: 0,
+            length: 0,
+            rate: UNLOADED,
+        };
+        if let Err(refusal) = self.lane.opening(gap, newcomer) {
+            println!("{name} refused with {refusal}");
+        }
+    }
+
     fn print_summary(&self) -> Result<(), Refusal> {
         println!("cycles run: {CYCLES}");
         println!("entries admitted: {}", self.admitted);
@@ -260,7 +280,10 @@ impl Host {
             self.next_on_side_road - FIRST_ON_SIDE_ROAD,
             self.ahead_of_all
         );
-        println!("questions there without an opening: {}", self.unopened);
+        println!(
+            "questions there without an opening: {}, with one out of reach: {}",
+            self.unopened, self.out_of_reach
+        );
         println!("changes of surface: {}", self.changed);
         let (refusal, times) = (Refusal::SurfaceUnsafe, self.postponed);
         println!("changes of surface refused with {refusal}: {times}");
@@ -334,5 +357,6 @@ fn main() -> Result<(), Refusal> {
     }
     host.try_table("table on a lane in use", TABLE);
     host.try_table("table cut short", &TABLE[..TABLE.len() - 1]);
+    host.try_opening("opening behind a carrier that is gone", Gap::Behind(1));
     host.print_summary()
 }
