@@ -153,7 +153,7 @@ static rondavitse_opening opening_at_side_road(const host *h, rondavitse_newcome
     return answer;
 }
 
-/* A carrier may drive in anywhere in an opening. It can't be refused there: its number is new, and 64 carriers do not fit on this lane. */
+/* A carrier may drive in anywhere in an opening. It cannot be refused there: its number is new, and 64 carriers do not fit on this lane. */
 static void leave_side_road(host *h, uint64_t position, rondavitse_newcomer newcomer) {
     const rondavitse_carrier carrier = {
         .number = h->next_on_side_road,

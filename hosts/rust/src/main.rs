@@ -165,7 +165,7 @@ impl Host {
             .map_or(Gap::AheadOfAll, |carrier| Gap::Behind(carrier.number))
     }
 
-    /// A carrier may drive in anywhere in an opening. It can't be refused there:
+    /// A carrier may drive in anywhere in an opening. It cannot be refused there:
     /// its number is new, and 64 carriers do not fit on this lane.
     fn leave_side_road(&mut self, position: u64, newcomer: Newcomer) -> Result<(), Refusal> {
         let place = self.lane.enter(Carrier {
