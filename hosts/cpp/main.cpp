@@ -110,6 +110,14 @@ static void enter_behind(Lane &lane, uint64_t ahead, uint64_t number, const rond
     try_entry(lane, {number, opening.lowest + (opening.highest - opening.lowest) / 2, newcomer.speed, newcomer.length, newcomer.rate});
 }
 
+static void try_side_road(Lane &lane, uint64_t ahead, uint64_t number, const rondavitse_newcomer &newcomer) {
+    try {
+        enter_behind(lane, ahead, number, newcomer);
+    } catch (const Refused &refusal) {
+        std::printf("opening behind carrier %" PRIu64 " refused by %" PRIu32 ": %s\n", ahead, refusal.no, refusal.what());
+    }
+}
+
 int main() {
     std::string table = "b=60\nB=120\nA=30\n"; // of a terminal on which all surfaces but the dry one are alike
     for (int code = 1; code < RONDAVITSE_SURFACES; code++) {
@@ -134,13 +142,8 @@ int main() {
     try_surface(lane, UINT64_C(4294967297)); // 1 if it were cut
     try_surface(lane, 1);
     const rondavitse_newcomer newcomer = {8, 50, 4};
-    for (const uint64_t ahead : {UINT64_C(4294967303), UINT64_C(7)}) { // the first would be 7 if it were cut
-        try {
-            enter_behind(lane, ahead, 12, newcomer);
-        } catch (const Refused &refusal) {
-            std::printf("opening behind carrier %" PRIu64 " refused by %" PRIu32 ": %s\n", ahead, refusal.no, refusal.what());
-        }
-    }
+    try_side_road(lane, UINT64_C(4294967303), 12, newcomer); // behind 7 if it were cut
+    try_side_road(lane, 7, 12, newcomer);
     const rondavitse_opening opening = lane.opening_ahead_of_all(newcomer);
     std::printf("opening ahead of all: %" PRIu64 " to %" PRIu64 "\n", opening.lowest, opening.highest);
     for (const uint64_t number : {7, 12, 8}) {

@@ -117,6 +117,13 @@ def enter_behind(lane, ahead, number, speed, length, rate):
     try_entry(lane, number, sum(opening) // 2, speed, length, rate)
 
 
+def try_side_road(lane, ahead, *newcomer):
+    try:
+        enter_behind(lane, ahead, *newcomer)
+    except Refused as refusal:
+        print("opening behind carrier {} refused by {}: {}".format(ahead, *refusal.args))
+
+
 def main(path):
     dry, wet = b"b=60\nB=120\nA=30\n", b"b=20\nB=80\nA=10\n"
     table = dry + wet * (SURFACES - 1)  # of a terminal on which all surfaces but the dry one are alike
@@ -136,11 +143,8 @@ def main(path):
             print("cycle refused by {}: {}".format(*refusal.args))
     try_surface(lane, 4294967297)  # 1 if it were cut
     try_surface(lane, 1)
-    for ahead in (4294967303, 7):  # the first would be 7 if it were cut
-        try:
-            enter_behind(lane, ahead, 12, 8, 50, 4)
-        except Refused as refusal:
-            print("opening behind carrier {} refused by {}: {}".format(ahead, *refusal.args))
+    try_side_road(lane, 4294967303, 12, 8, 50, 4)  # behind 7 if it were cut
+    try_side_road(lane, 7, 12, 8, 50, 4)
     print("opening ahead of all: {} to {}".format(*lane.opening_ahead_of_all(8, 50, 4)))
     for number in (7, 12, 8):
         reading = lane.read(number)
