@@ -55,26 +55,39 @@ static void check_every_position(const rondavitse_lane *lane, rondavitse_newcome
     }
 }
 
-/* The same numbers in every run. */
+/* The same numbers in every run; one after another, since C leaves open which of two arguments comes first. */
 static uint64_t draw(uint64_t below) {
     static uint64_t state = 1;
     state = state * UINT64_C(6364136223846793005) + UINT64_C(1442695040888963407);
     return (state >> 33) % below;
 }
 
-static uint64_t any_rate(void) {
-    return draw(2) == 0 ? 1 + draw(RONDAVITSE_HIGHEST_RATE) : 1 + draw(8);
+/* Slow and short for the most part, so that gaps of a few units are found. */
+static rondavitse_newcomer any_newcomer(void) {
+    rondavitse_newcomer newcomer;
+    newcomer.speed = draw(7);
+    newcomer.speed *= draw(4);
+    newcomer.length = draw(3);
+    newcomer.length *= draw(9);
+    newcomer.rate = 1 + draw(RONDAVITSE_HIGHEST_RATE);
+    if (draw(2) == 0) {
+        newcomer.rate = 1 + newcomer.rate % 8;
+    }
+    return newcomer;
 }
 
-/* Up to six carriers on a short lane, after some cycles, in which fronts may pass the end. */
+/* Up to six carriers on a short lane, after some cycles without a wish, in which fronts may pass the end. */
 static rondavitse_lane any_lane(void) {
-    const uint8_t sorts[MOST] = {RONDAVITSE_UNITS};
+    const uint8_t sorts[MOST] = {0}; /* whole units */
     const uint32_t values[MOST] = {0};
-    rondavitse_lane lane = started_lane(draw(SURFACES), 1 + draw(90));
-    for (uint64_t number = draw(7); number > 0; number--) {
-        rondavitse_enter(&lane, (rondavitse_carrier){number, draw(lane.end), draw(7) * draw(4), draw(20), any_rate()}); /* or not */
+    const uint64_t surface = draw(SURFACES), carriers = draw(7), cycles = draw(3);
+    rondavitse_lane lane = started_lane(surface, 1 + draw(90));
+    for (uint64_t number = 1; number <= carriers; number++) {
+        const uint64_t position = draw(lane.end);
+        const rondavitse_newcomer c = any_newcomer();
+        rondavitse_enter(&lane, (rondavitse_carrier){number, position, c.speed, c.length, c.rate}); /* or not */
     }
-    for (uint64_t cycles = draw(3); cycles > 0; cycles--) {
+    for (uint64_t i = 0; i < cycles; i++) {
         same("any lane", "no", rondavitse_cycle(&lane, lane.count, sorts, MOST, values, MOST).no, RONDAVITSE_ACCEPTED);
     }
     return lane;
@@ -86,7 +99,7 @@ static void check_short_lanes(void) {
     unsigned found[2][WIDTHS] = {{0}};
     for (unsigned i = 0; i < 3000; i++) {
         const rondavitse_lane lane = any_lane();
-        const rondavitse_newcomer newcomer = {.speed = draw(6) * draw(4), .length = draw(3) * draw(9), .rate = any_rate()};
+        const rondavitse_newcomer newcomer = any_newcomer();
         check_every_position(&lane, newcomer);
         for (size_t place = 0; place <= lane.count; place++) {
             const rondavitse_opening opening = opening_at(&lane, place, newcomer);
