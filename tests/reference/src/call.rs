@@ -1,7 +1,7 @@
 //! Calls with their arguments, and what they answer.
 
-use crate::carrier::Carrier;
-use crate::lane::{Cycled, Reading, PLACES};
+use crate::carrier::{Carrier, Newcomer};
+use crate::lane::{Cycled, Gap, Opening, Reading, PLACES};
 use crate::road::Road;
 use crate::wish::Wish;
 
@@ -24,6 +24,11 @@ pub enum Call {
     },
     Read {
         number: u64,
+    },
+    /// Where in a gap one with these values could enter.
+    FindOpening {
+        gap: Gap,
+        newcomer: Newcomer,
     },
     /// The lane text into a buffer of `room` bytes.
     LaneText {
@@ -48,6 +53,8 @@ pub enum Answer {
     Left,
     Cycled(Cycled),
     Read(Reading),
+    /// Nothing where no position would be admitted.
+    OpeningFound(Option<Opening>),
     LaneText(Vec<u8>),
     SurfaceChanged,
     Loaded,

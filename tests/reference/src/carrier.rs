@@ -23,7 +23,37 @@ pub struct Carrier {
     pub rate: u64,
 }
 
+/// What is known of a carrier before it has a number and a position on a lane.
+#[derive(Clone, Copy, Debug, Default, PartialEq, Eq)]
+pub struct Newcomer {
+    pub speed: u64,
+    pub length: u64,
+    pub rate: u64,
+}
+
+impl Newcomer {
+    /// The carrier that it would be at a position; a number is not given to it.
+    pub fn at(self, position: u64) -> Carrier {
+        Carrier {
+            number: 0,
+            position,
+            speed: self.speed,
+            length: self.length,
+            rate: self.rate,
+        }
+    }
+}
+
 impl Carrier {
+    /// What of the carrier is known before it has a number and a position.
+    pub fn as_newcomer(self) -> Newcomer {
+        Newcomer {
+            speed: self.speed,
+            length: self.length,
+            rate: self.rate,
+        }
+    }
+
     /// The position, as a number that tails can be compared with.
     pub fn front(self) -> i64 {
         debug_assert!(self.position <= u32::MAX.into());

@@ -29,6 +29,24 @@ pub fn safe_behind<S: Stopping>(row: &Row, follower: Carrier, leader: Carrier) -
     follower.front() < leader.tail() && rests_short::<S>(row, follower, leader)
 }
 
+/// The foremost position at which the follower, wherever it is, would be safe
+/// behind the leader; it may lie before the lane's start.
+pub fn foremost_behind<S: Stopping>(row: &Row, follower: Carrier, leader: Carrier) -> i64 {
+    let stop = stop::<S>(follower, follower.guaranteed_braking(row));
+    let now = leader.tail() - 1;
+    let at_rest = tail_at_rest::<S>(row, leader) - 1 - stop;
+    now.min(at_rest)
+}
+
+/// The rearmost position at which the leader, wherever it is, would have the
+/// follower safe behind it.
+pub fn rearmost_ahead<S: Stopping>(row: &Row, leader: Carrier, follower: Carrier) -> i64 {
+    let stop = stop::<S>(leader, row.hardest_braking);
+    let now = follower.front() + 1;
+    let at_rest = front_at_rest::<S>(row, follower) + 1 - stop;
+    now.max(at_rest) + leader.length as i64
+}
+
 /// Whether the follower, once it has driven a cycle with `acceleration`, would
 /// still rest behind the tail of a leader that brakes its hardest from the
 /// cycle's start.

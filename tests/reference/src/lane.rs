@@ -1,15 +1,18 @@
 //! The lane as a host hands it in.
 
 mod calls;
+mod entry;
 mod listing;
 mod lookup;
 mod motion;
+mod opening;
 mod rules;
 
 pub use crate::carrier::Carrier;
 pub use calls::Supervisor;
 pub use listing::LONGEST_LANE_TEXT;
 pub use lookup::Lookup;
+pub use opening::{Gap, Opening};
 pub use rules::NUMBERS;
 
 use crate::road::Road;

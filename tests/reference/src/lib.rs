@@ -24,8 +24,8 @@ pub mod text;
 pub mod wish;
 
 pub use call::{Answer, Call};
-pub use carrier::Carrier;
-pub use lane::{Cycled, FastLane, Lane, Lookup, Reading, Supervisor, PLACES};
+pub use carrier::{Carrier, Newcomer};
+pub use lane::{Cycled, FastLane, Gap, Lane, Lookup, Opening, Reading, Supervisor, PLACES};
 pub use refusal::Refusal;
 pub use road::Road;
 pub use surface::{Row, Table, Tables};

@@ -5,9 +5,11 @@ mod breaks;
 mod calls;
 mod edges;
 mod entries;
+mod gaps;
 mod histories;
 mod lanes;
 mod lengths;
+mod openings;
 mod programs;
 mod rates;
 mod surfaces;
@@ -17,11 +19,13 @@ mod wide;
 mod wishes;
 
 pub use breaks::{break_line, LineBreak, Part, TextBreak, LINE_BREAKS, TEXT_BREAKS};
-pub use calls::{call, Weights, CYCLES, EVEN, LOADS, RAIN};
+pub use calls::{call, Weights, CYCLES, EVEN, LOADS, OPENINGS, RAIN};
+pub use gaps::{gapped_lane, short_lane, SHORT_END};
 pub use histories::{calls_on, calls_on_empty, history, History};
 pub use lanes::{
     empty_lane, lane_for_change, lane_with, never_started_lane, sound_lane, unsound_lane,
 };
+pub use openings::{entry_in, question};
 pub use programs::{
     call_text, garbled_program, longest_program, malformed_program, oversize_program, program,
 };

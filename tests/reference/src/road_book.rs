@@ -64,7 +64,7 @@ impl RoadBook {
                 self.tables.for_next_start = table.map_err(|_| "no table was loaded")?;
             }
             Call::Surface { surface } => self.road.surface = surface,
-            Call::Read { .. } | Call::LaneText { .. } => (),
+            Call::Read { .. } | Call::FindOpening { .. } | Call::LaneText { .. } => (),
         }
         Ok(())
     }

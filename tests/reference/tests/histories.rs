@@ -4,7 +4,8 @@ mod common;
 
 use common::{carrier, example_lane, lane_of, let_in, long_carrier, wishes};
 use lane_reference::random::{
-    call, history, sound_lane, unsound_lane, widened, History, Random, CYCLES, EVEN, LOADS, RAIN,
+    call, history, sound_lane, unsound_lane, widened, History, Random, CYCLES, EVEN, LOADS,
+    OPENINGS, RAIN,
 };
 use lane_reference::road_book::{check_history, Checker, Drive};
 use lane_reference::stopping::{Fast, Summed};
@@ -58,7 +59,7 @@ fn histories_reach_every_refusal_and_every_answer() {
     }
     let every = (1..=7).chain([9]).chain(21..=28).chain(31..=35).collect();
     assert_eq!(refusals, every);
-    assert_eq!(sorts.len(), 7, "{sorts:?}");
+    assert_eq!(sorts.len(), 8, "{sorts:?}");
     assert!(full > 1_000 && gone > 1_000 && replaced > 10_000 && last_bit > 100);
 }
 
@@ -72,7 +73,7 @@ fn lanes_handed_in_are_judged() {
         let unsound = unsound_lane(&mut random);
         assert!(unsound.sound_row::<Fast>().is_err(), "{unsound:?}");
         for lane in [sound, unsound] {
-            let weights = random.pick(&[EVEN, LOADS, RAIN]);
+            let weights = random.pick(&[EVEN, LOADS, RAIN, OPENINGS]);
             let call = call(&mut random, &lane, &weights);
             let mut after = FastLane(lane);
             let answer = after.call(&call);
@@ -140,6 +141,7 @@ fn arguments_above_their_width_are_refused() {
             Call::Start { .. } => &[1, 2, 3],
             Call::Enter { .. } => &[4, 5, 6, 33, 35],
             Call::Leave { .. } | Call::Read { .. } => &[4],
+            Call::FindOpening { .. } => &[4, 24, 6, 33, 35],
             Call::Surface { .. } => &[1],
             Call::Cycle { .. } | Call::LaneText { .. } | Call::Load { .. } => continue,
         };

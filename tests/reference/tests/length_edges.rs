@@ -138,6 +138,8 @@ fn past_end_call(call: &Call, outcome: &Outcome) -> &'static str {
         (Call::Cycle { .. }, Err(_)) => "front past the end: cycle refused",
         (Call::Read { .. }, Ok(_)) => "front past the end: read accepted",
         (Call::Read { .. }, Err(_)) => "front past the end: read refused",
+        (Call::FindOpening { .. }, Ok(_)) => "front past the end: question accepted",
+        (Call::FindOpening { .. }, Err(_)) => "front past the end: question refused",
         (Call::LaneText { .. }, Ok(_)) => "front past the end: lane text accepted",
         (Call::LaneText { .. }, Err(_)) => "front past the end: lane text refused",
         (Call::Surface { .. }, Ok(_)) => "front past the end: surface accepted",

@@ -1,11 +1,12 @@
 //! The calls on a lane, each with its checks in the paper's order.
 
+use super::entry::{check_values, fit};
 use super::listing::{lane_text, LONGEST_LANE_TEXT};
 use super::motion::drive;
+use super::opening::{opening, Gap, Opening};
 use super::{Cycled, Lane, Reading, NUMBERS, PLACES};
 use crate::call::{Answer, Call};
-use crate::carrier::{Carrier, LONGEST_CARRIER, OWN_RATES};
-use crate::headway::safe_behind;
+use crate::carrier::{Carrier, Newcomer};
 use crate::refusal::Refusal;
 use crate::road::Road;
 use crate::stopping::Stopping;
@@ -42,19 +43,12 @@ pub trait Supervisor {
         let row = lane.sound_row::<Self::Stopping>()?;
         Refusal::NumberOutOfRange.when(!NUMBERS.contains(&newcomer.number))?;
         Refusal::PositionPastEnd.when(newcomer.position >= lane.road.end)?;
-        Refusal::SpeedAboveLimit.when(newcomer.speed > lane.road.limit)?;
-        Refusal::LengthTooLarge.when(newcomer.length > LONGEST_CARRIER)?;
-        Refusal::OwnRateOutOfRange.when(!OWN_RATES.contains(&newcomer.rate))?;
+        check_values(&lane.road, newcomer.as_newcomer())?;
         let present = lane.present();
         let count = present.len();
         Refusal::LaneFull.when(count == PLACES)?;
         Refusal::NumberPresent.when(lane.look_up(newcomer.number).place.is_some())?;
-        let place = entry_place(present, newcomer.position);
-        let safe = safe_behind::<Self::Stopping>;
-        let leader_near = place > 0 && !safe(&row, newcomer, present[place - 1]);
-        Refusal::UnsafeBehindLeader.when(leader_near)?;
-        let follower_near = place < count && !safe(&row, present[place], newcomer);
-        Refusal::FollowerUnsafe.when(follower_near)?;
+        let place = fit::<Self::Stopping>(&row, present, newcomer)?;
         lane.carriers.copy_within(place..count, place + 1);
         lane.carriers[place] = newcomer;
         lane.count += 1;
@@ -116,6 +110,16 @@ pub trait Supervisor {
         })
     }
 
+    /// Where in a gap one with the newcomer's values could enter; an answer is
+    /// nothing where it could not. A place and a number need not be free.
+    fn find_opening(&self, gap: Gap, newcomer: Newcomer) -> Result<Option<Opening>, Refusal> {
+        let lane = self.lane();
+        let row = lane.sound_row::<Self::Stopping>()?;
+        let place = lane.place_in(gap)?;
+        check_values(&lane.road, newcomer)?;
+        Ok(opening::<Self::Stopping>(lane, &row, place, newcomer))
+    }
+
     /// Writes the lane text into `buffer` and gives its length; the bytes
     /// after the text keep what they held.
     fn lane_text(&self, buffer: &mut [u8]) -> Result<usize, Refusal> {
@@ -167,9 +171,7 @@ pub trait Supervisor {
     /// The place of a carrier, with the checks that leave and read share.
     fn place_of(&self, number: u64) -> Result<usize, Refusal> {
         self.lane().sound_row::<Self::Stopping>()?;
-        Refusal::NumberOutOfRange.when(!NUMBERS.contains(&number))?;
-        let found = self.lane().look_up(number);
-        found.place.ok_or(Refusal::NumberAbsent)
+        self.lane().place_present(number)
     }
 
     /// Runs a call given as a value.
@@ -180,6 +182,9 @@ pub trait Supervisor {
             Call::Leave { number } => self.leave(number).map(|()| Answer::Left),
             Call::Cycle { count, ref wishes } => self.cycle(count, wishes).map(Answer::Cycled),
             Call::Read { number } => self.read(number).map(Answer::Read),
+            Call::FindOpening { gap, newcomer } => {
+                self.find_opening(gap, newcomer).map(Answer::OpeningFound)
+            }
             Call::LaneText { room } => {
                 let mut buffer = vec![0; room];
                 let length = self.lane_text(&mut buffer)?;
@@ -190,13 +195,4 @@ pub trait Supervisor {
             Call::Load { ref text } => self.load(text).map(|()| Answer::Loaded),
         }
     }
-}
-
-/// The walk goes front to back, by fronts alone, and ends at the first carrier
-/// whose position is lower, so a carrier at the same position counts as ahead.
-fn entry_place(present: &[Carrier], position: u64) -> usize {
-    present
-        .iter()
-        .position(|carrier| carrier.position < position)
-        .unwrap_or(present.len())
 }

@@ -1,6 +1,7 @@
 //! Looking up a carrier by its number.
 
-use super::Lane;
+use super::{Lane, NUMBERS};
+use crate::refusal::Refusal;
 
 /// What a lookup found, and how far it had to go.
 #[derive(Clone, Copy, Debug, PartialEq, Eq)]
@@ -21,5 +22,11 @@ impl Lane {
             carrier.number == number
         });
         Lookup { place, looked_at }
+    }
+
+    /// The place of a carrier named by a call, whose number may be any.
+    pub(super) fn place_present(&self, number: u64) -> Result<usize, Refusal> {
+        Refusal::NumberOutOfRange.when(!NUMBERS.contains(&number))?;
+        self.look_up(number).place.ok_or(Refusal::NumberAbsent)
     }
 }

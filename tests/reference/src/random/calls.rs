@@ -1,6 +1,7 @@
 //! The next call of a history, fitted to the lane it meets.
 
 use super::entries::{closing_up, closing_up_for_change, entry, known_number};
+use super::openings::{entry_in, question};
 use super::programs::carrier_lines;
 use super::surfaces::surface;
 use super::table_texts::load_text;
@@ -12,20 +13,23 @@ use crate::road::Road;
 
 /// How likely each sort of call is: closing up at the back, the same for another
 /// row too, any other entry, cycle, leave, read, lane text, good start, any start,
-/// change of surface, load.
-pub type Weights = [u64; 11];
+/// change of surface, load, question where one could enter.
+pub type Weights = [u64; 12];
 
 /// All sorts of calls.
-pub const EVEN: Weights = [10, 5, 25, 30, 12, 8, 8, 1, 2, 6, 4];
+pub const EVEN: Weights = [10, 5, 25, 30, 12, 8, 8, 1, 2, 6, 4, 8];
 
 /// Cycles alone.
-pub const CYCLES: Weights = [0, 0, 0, 1, 0, 0, 0, 0, 0, 0, 0];
+pub const CYCLES: Weights = [0, 0, 0, 1, 0, 0, 0, 0, 0, 0, 0, 0];
 
 /// Loads before and after a start, and what shows that they do no more.
-pub const LOADS: Weights = [1, 0, 0, 3, 1, 1, 1, 3, 1, 2, 12];
+pub const LOADS: Weights = [1, 0, 0, 3, 1, 1, 1, 3, 1, 2, 12, 1];
 
 /// Changes of surface, and what shows which row is in force after them.
-pub const RAIN: Weights = [0, 8, 8, 24, 6, 2, 2, 0, 0, 24, 1];
+pub const RAIN: Weights = [0, 8, 8, 24, 6, 2, 2, 0, 0, 24, 1, 2];
+
+/// Questions where one could enter, and what makes and closes gaps.
+pub const OPENINGS: Weights = [4, 0, 4, 4, 12, 1, 1, 0, 0, 2, 0, 40];
 
 /// A call on `lane`, which may be any lane.
 pub fn call(random: &mut Random, lane: &Lane, weights: &Weights) -> Call {
@@ -46,9 +50,29 @@ pub fn call(random: &mut Random, lane: &Lane, weights: &Weights) -> Call {
         9 => Call::Surface {
             surface: surface(random, lane),
         },
-        _ => Call::Load {
+        10 => Call::Load {
             text: load_text(random),
         },
+        _ => {
+            let (gap, newcomer) = question(random, lane);
+            Call::FindOpening { gap, newcomer }
+        }
+    }
+}
+
+/// The call after `last`: mostly, after a question, an entry at an end of what it
+/// found or one past that; else one as likely as `weights` say.
+pub fn call_after(
+    random: &mut Random,
+    last: Option<&Call>,
+    lane: &Lane,
+    weights: &Weights,
+) -> Call {
+    match last {
+        Some(&Call::FindOpening { gap, newcomer }) if random.chance(70) => {
+            Call::Enter(entry_in(random, lane, gap, newcomer))
+        }
+        _ => call(random, lane, weights),
     }
 }
 

@@ -133,7 +133,8 @@ fn closing_length(random: &mut Random, lane: &Lane, newcomer: Carrier) -> u64 {
     }
 }
 
-fn to_position(position: i128) -> u64 {
+/// The position, or the nearest one that a line of text can hold.
+pub fn to_position(position: i128) -> u64 {
     position.clamp(0, u32::MAX.into()) as u64
 }
 
@@ -188,18 +189,29 @@ fn ahead(random: &mut Random, lane: &Lane, rows: &[Row], newcomer: &mut Carrier)
 /// Makes the newcomer reach from the nearest position behind one carrier to the
 /// nearest ahead of the next, or a little further.
 fn fill_gap(random: &mut Random, lane: &Lane, rows: &[Row], newcomer: &mut Carrier) {
+    let place = random.index(lane.present().len().max(1));
+    let (front, tail) = gap_ends(lane, rows, place, *newcomer);
+    newcomer.position = to_position(front);
+    newcomer.length = to_length(front - tail.unwrap_or(0) + random.pick(&OFFSETS));
+}
+
+/// Of a newcomer at a place: the foremost position and, with someone behind it, the
+/// rearmost position of its tail.
+pub fn gap_ends(
+    lane: &Lane,
+    rows: &[Row],
+    place: usize,
+    newcomer: Carrier,
+) -> (i128, Option<i128>) {
     let present = lane.present();
-    let place = random.index(present.len().max(1));
     let foremost = || i128::from(lane.road.end) - 1;
     let leader = place.checked_sub(1).map(|ahead| present[ahead]);
     let front = leader.map_or_else(foremost, |leader| {
-        nearest_behind_under(rows, leader, *newcomer)
+        nearest_behind_under(rows, leader, newcomer)
     });
-    let rearmost_tail = present.get(place).map_or(0, |&follower| {
-        nearest_tail_ahead_under(rows, follower, newcomer.speed)
-    });
-    newcomer.position = to_position(front);
-    newcomer.length = to_length(front - rearmost_tail + random.pick(&OFFSETS));
+    let follower = present.get(place);
+    let tail = follower.map(|&follower| nearest_tail_ahead_under(rows, follower, newcomer.speed));
+    (front, tail)
 }
 
 /// Level with a carrier's front or tail, or between them.
@@ -274,7 +286,7 @@ fn number_left_behind(random: &mut Random, lane: &Lane) -> u64 {
 
 /// Mostly an unused number. On a lane with one place left, half are known: only
 /// there does an entry's lookup go through all 63.
-fn number(random: &mut Random, lane: &Lane) -> u64 {
+pub fn number(random: &mut Random, lane: &Lane) -> u64 {
     let one_left = lane.present().len() == PLACES - 1;
     match random.below(30) {
         0 => 0,

@@ -1,7 +1,7 @@
 //! Whole histories: tables are loaded, lanes fill up, drive, and meet all sorts
 //! of calls.
 
-use super::calls::{call, Weights, EVEN, LOADS, RAIN};
+use super::calls::{call_after, Weights, EVEN, LOADS, RAIN};
 use super::lanes::empty_lane;
 use super::Random;
 use crate::call::Call;
@@ -15,12 +15,12 @@ pub struct History {
     pub calls: Vec<Call>,
 }
 
-const START: Weights = [0, 0, 0, 0, 0, 0, 0, 1, 0, 0, 0];
-const LOAD: Weights = [0, 0, 0, 1, 0, 0, 0, 0, 0, 1, 8];
-const FILL: Weights = [90, 0, 4, 2, 2, 1, 1, 0, 0, 1, 1];
-const FILL_FOR_CHANGE: Weights = [0, 94, 0, 0, 1, 1, 1, 0, 0, 2, 1];
-const CHANGE: Weights = [0, 25, 12, 0, 15, 1, 1, 0, 0, 45, 1];
-const DRIVE: Weights = [5, 0, 8, 75, 4, 4, 4, 0, 0, 4, 2];
+const START: Weights = [0, 0, 0, 0, 0, 0, 0, 1, 0, 0, 0, 0];
+const LOAD: Weights = [0, 0, 0, 1, 0, 0, 0, 0, 0, 1, 8, 1];
+const FILL: Weights = [90, 0, 4, 2, 2, 1, 1, 0, 0, 1, 1, 3];
+const FILL_FOR_CHANGE: Weights = [0, 94, 0, 0, 1, 1, 1, 0, 0, 2, 1, 1];
+const CHANGE: Weights = [0, 25, 12, 0, 15, 1, 1, 0, 0, 45, 1, 3];
+const DRIVE: Weights = [5, 0, 8, 75, 4, 4, 4, 0, 0, 4, 2, 4];
 
 /// How a lane is filled, and how many turns of changes follow.
 const FILLS: [(Weights, usize); 5] = [
@@ -47,11 +47,12 @@ pub fn calls_on_empty(random: &mut Random, calls: usize) -> Vec<Call> {
     calls_on(random, Lane::default(), &plan)
 }
 
-/// So many calls on the empty lane without a load, which no call text makes.
-pub fn calls_without_loads(random: &mut Random, calls: usize) -> Vec<Call> {
+/// So many calls on the empty lane without a load or a question where one could
+/// enter, which no call text makes.
+pub fn calls_of_texts(random: &mut Random, calls: usize) -> Vec<Call> {
     let mut plan = plan(random, calls);
-    for [.., load] in &mut plan {
-        *load = 0;
+    for [.., load, question] in &mut plan {
+        (*load, *question) = (0, 0);
     }
     calls_on(random, Lane::default(), &plan)
 }
@@ -60,13 +61,14 @@ pub fn calls_without_loads(random: &mut Random, calls: usize) -> Vec<Call> {
 /// has it at that point.
 pub fn calls_on(random: &mut Random, first: Lane, plan: &[Weights]) -> Vec<Call> {
     let mut lane = FastLane(first);
-    let fitted = plan.iter().map(|weights| {
-        let next = call(random, &lane.0, weights);
+    let mut calls: Vec<Call> = Vec::with_capacity(plan.len());
+    for weights in plan {
+        let next = call_after(random, calls.last(), &lane.0, weights);
         // Refused calls belong to a history as well.
         let _ = lane.call(&next);
-        next
-    });
-    fitted.collect()
+        calls.push(next);
+    }
+    calls
 }
 
 /// Weights for so many calls: shifts one after the other.

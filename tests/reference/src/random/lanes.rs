@@ -88,12 +88,14 @@ pub fn sound_lane(random: &mut Random) -> Lane {
 /// As [`sound_lane`], with the caller's tables, which are sound; tight under the
 /// row in force alone.
 pub fn lane_with(random: &mut Random, tables: Tables) -> Lane {
-    platoon(random, tables, closing_up)
+    let road = any_road(random);
+    platoon(random, road, tables, closing_up)
 }
 
 /// As [`lane_with`], but often just safe or unsafe by one under another row.
 pub fn lane_for_change(random: &mut Random, tables: Tables) -> Lane {
-    let mut lane = platoon(random, tables, closing_up_for_change);
+    let road = any_road(random);
+    let mut lane = platoon(random, road, tables, closing_up_for_change);
     if random.chance(50) {
         move_up(random, &mut lane);
     }
@@ -115,10 +117,16 @@ fn move_up(random: &mut Random, lane: &mut Lane) {
     }
 }
 
-fn platoon(random: &mut Random, tables: Tables, next: fn(&mut Random, &Lane) -> Carrier) -> Lane {
+/// A platoon of any number of carriers, one after the other as `next` has them.
+pub(super) fn platoon(
+    random: &mut Random,
+    road: Road,
+    tables: Tables,
+    next: fn(&mut Random, &Lane) -> Carrier,
+) -> Lane {
     let mut lane = Lane {
         started: true,
-        road: any_road(random),
+        road,
         cycle: any_cycle(random),
         count: 0,
         tables,

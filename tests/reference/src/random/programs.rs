@@ -1,15 +1,15 @@
 //! Whole program inputs.
 
 use super::breaks::{broken, garbled};
-use super::histories::calls_without_loads;
+use super::histories::calls_of_texts;
 use super::Random;
 use crate::call::Call;
 use crate::carrier::Carrier;
 use crate::program::LONGEST_INPUT;
 use crate::wish::Wish;
 
-/// The call text of a call; none for a reading or a load, nor for a cycle whose
-/// count no text can hold.
+/// The call text of a call; none for a reading, a question where one could enter or
+/// a load, nor for a cycle whose count no text can hold.
 pub fn call_text(call: &Call) -> Option<String> {
     match call {
         Call::Start { road, first } => Some(format!(
@@ -25,7 +25,7 @@ pub fn call_text(call: &Call) -> Option<String> {
         }
         Call::LaneText { .. } => Some("call=show\n".to_string()),
         Call::Surface { surface } => Some(format!("call=surface\nsurface={surface}\n")),
-        Call::Read { .. } | Call::Load { .. } => None,
+        Call::Read { .. } | Call::FindOpening { .. } | Call::Load { .. } => None,
     }
 }
 
@@ -54,7 +54,7 @@ fn want_line(wish: &Wish) -> String {
 pub fn program(random: &mut Random) -> Vec<u8> {
     let length = random.pick(&[1, 4, 12, 40, 120]);
     let mut text = String::new();
-    for call in calls_without_loads(random, length) {
+    for call in calls_of_texts(random, length) {
         let block = call_text(&call).unwrap_or_else(|| "call=show\n".to_string());
         if text.len() + block.len() <= LONGEST_INPUT {
             text.push_str(&block);

@@ -3,6 +3,7 @@
 
 use super::Random;
 use crate::call::Call;
+use crate::lane::Gap;
 
 /// The word with a bit above so many set, or with all.
 fn above(random: &mut Random, width: u64, word: u64) -> u64 {
@@ -42,7 +43,7 @@ fn wide_code(random: &mut Random, code: u64) -> u64 {
 /// and a load stay as they are.
 pub fn widened(random: &mut Random, call: &Call) -> Call {
     let mut call = call.clone();
-    let argument = random.below(15);
+    let argument = random.below(60);
     match &mut call {
         Call::Start { road, .. } => match argument % 3 {
             0 => road.surface = wide(random, road.surface),
@@ -55,6 +56,12 @@ pub fn widened(random: &mut Random, call: &Call) -> Call {
             2 => carrier.speed = wide(random, carrier.speed),
             3 => carrier.length = wide_length(random, carrier.length),
             _ => carrier.rate = wide_figure(random, carrier.rate),
+        },
+        Call::FindOpening { gap, newcomer } => match (argument % 4, gap) {
+            (0, Gap::Behind(number)) => *number = wide_number(random, *number),
+            (1, _) => newcomer.speed = wide(random, newcomer.speed),
+            (2, _) => newcomer.length = wide_length(random, newcomer.length),
+            _ => newcomer.rate = wide_figure(random, newcomer.rate),
         },
         Call::Leave { number } | Call::Read { number } => *number = wide_number(random, *number),
         Call::Surface { surface } => *surface = wide_code(random, *surface),

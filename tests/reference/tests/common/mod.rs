@@ -6,7 +6,9 @@ pub mod edges;
 use lane_reference::random::table_text;
 use lane_reference::road_book::Checker;
 use lane_reference::stopping::Summed;
-use lane_reference::{Answer, Call, Carrier, Lane, Refusal, Road, Supervisor, Table, Wish, PLACES};
+use lane_reference::{
+    Answer, Call, Carrier, Gap, Lane, Newcomer, Refusal, Road, Supervisor, Table, Wish, PLACES,
+};
 
 /// A carrier of no length, which brakes as every row asks, from number, position
 /// and speed.
@@ -31,6 +33,20 @@ pub fn rated_carrier(number: u64, position: u64, speed: u64, rate: u64) -> Carri
         rate,
         ..carrier(number, position, speed)
     }
+}
+
+/// A newcomer from speed, length and own rate.
+pub fn newcomer(speed: u64, length: u64, rate: u64) -> Newcomer {
+    Newcomer {
+        speed,
+        length,
+        rate,
+    }
+}
+
+/// The question where one could enter.
+pub fn ask(gap: Gap, newcomer: Newcomer) -> Call {
+    Call::FindOpening { gap, newcomer }
 }
 
 /// A road from surface, end and limit.
@@ -74,11 +90,13 @@ pub fn wishes(first: &[Wish]) -> [Wish; PLACES] {
 }
 
 /// The calls that look at the whole lane: a start does not.
-pub fn calls_that_look() -> [Call; 7] {
+pub fn calls_that_look() -> [Call; 9] {
     [
         Call::Enter(carrier(0, 0, 0)),
         Call::Leave { number: 0 },
         Call::Read { number: 0 },
+        ask(Gap::Behind(0), newcomer(u64::MAX, u64::MAX, 0)),
+        ask(Gap::AheadOfAll, newcomer(u64::MAX, u64::MAX, 0)),
         Call::LaneText { room: 0 },
         Call::Surface { surface: 8 },
         Call::Load { text: Vec::new() },
