@@ -17,7 +17,7 @@ use crate::road::Road;
 pub type Weights = [u64; 12];
 
 /// All sorts of calls.
-pub const EVEN: Weights = [10, 5, 25, 30, 12, 8, 8, 1, 2, 6, 4, 8];
+pub const EVEN: Weights = [10, 5, 25, 30, 12, 8, 8, 1, 2, 6, 4, 12];
 
 /// Cycles alone.
 pub const CYCLES: Weights = [0, 0, 0, 1, 0, 0, 0, 0, 0, 0, 0, 0];

@@ -1,6 +1,7 @@
 //! Sound lanes with gaps that one could enter, or just could not.
 
-use super::entries::closing_up;
+use super::edges::{nearest_behind, row_of};
+use super::entries::{closing_up, to_position};
 use super::lanes::{platoon, sound_lane};
 use super::tables::sound_tables;
 use super::Random;
@@ -27,12 +28,26 @@ pub fn short_lane(random: &mut Random) -> Lane {
         limit: random.pick(&[1, 2, 8, 40, slow, slow, 8_192]),
     };
     let tables = sound_tables(random);
-    let lane = platoon(random, road, tables, closing_up);
+    let next = random.pick(&[closing_up, following_close]);
+    let lane = platoon(random, road, tables, next);
     with_gaps(random, lane)
 }
 
+/// As [`closing_up`], with little room before it and little length, so that as many
+/// carriers as a lane holds go on a short one too.
+fn following_close(random: &mut Random, lane: &Lane) -> Carrier {
+    let mut next = closing_up(random, lane);
+    if let Some(&rear) = lane.present().last() {
+        let nearest = nearest_behind(&row_of(lane), rear, next);
+        let close = nearest - i128::from(random.below(4));
+        next.position = next.position.max(to_position(close));
+        next.length = next.length.min(random.below(4));
+    }
+    next
+}
+
 fn with_gaps(random: &mut Random, mut lane: Lane) -> Lane {
-    if random.chance(60) {
+    if lane.present().len() > 2 && random.chance(60) {
         thin_out(random, &mut lane);
     }
     if random.chance(50) {

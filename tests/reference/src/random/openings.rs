@@ -7,7 +7,7 @@ use super::entries::{gap_ends, known_number, number, speed, to_position};
 use super::lengths::{length, to_length};
 use super::rates::rate;
 use super::Random;
-use crate::carrier::{Carrier, Newcomer};
+use crate::carrier::{Carrier, Newcomer, LONGEST_CARRIER};
 use crate::lane::{FastLane, Gap, Lane, Opening, Supervisor};
 use crate::surface::Row;
 
@@ -127,7 +127,12 @@ fn fitting_length(
     if place == lane.present().len() {
         return newcomer.length; // Nobody is behind it.
     }
-    to_length(room + 1 - random.pick(&WIDTHS))
+    let longest = if random.chance(5) {
+        LONGEST_CARRIER + 1
+    } else {
+        LONGEST_CARRIER
+    };
+    to_length(room + 1 - random.pick(&WIDTHS)).min(longest)
 }
 
 /// An entry with the values of a question, at an end of what it found, one past that
