@@ -4,7 +4,7 @@ mod common;
 
 use common::edges::each_call;
 use common::{carrier, full_lane, refused};
-use lane_reference::{Call, FastLane, Lane, Lookup, Refusal, Supervisor};
+use lane_reference::{Call, FastLane, Gap, Lane, Lookup, Refusal, Supervisor};
 use std::collections::BTreeMap;
 
 /// The first so many carriers of the full lane, numbered from 1; the others'
@@ -119,6 +119,10 @@ fn asked(call: &Call) -> Option<(&'static str, usize, u64)> {
         Call::Enter(newcomer) => Some(("enter", 63, newcomer.number)),
         Call::Leave { number } => Some(("leave", 64, number)),
         Call::Read { number } => Some(("read", 64, number)),
+        Call::FindOpening {
+            gap: Gap::Behind(number),
+            ..
+        } => Some(("question", 64, number)),
         _ => None,
     }
 }
@@ -157,7 +161,7 @@ fn histories_crowd_the_edges_of_a_lookup() {
         }
     });
     assert!(
-        met.len() == 3 * 6 && met.values().all(|&times| times > 5),
+        met.len() == 4 * 6 && met.values().all(|&times| times > 5),
         "{met:?}"
     );
 }

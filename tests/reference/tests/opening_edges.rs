@@ -314,7 +314,7 @@ fn histories_crowd_the_edges_of_openings() {
         ("26: one below the lowest", 80),
         ("25: one above the highest", 100),
         ("5: one above the highest", 70),
-        ("22: at the lowest", 10),
+        ("22: at the lowest", 5),
         ("22: at the highest", 5),
         ("24: a number left behind", 10),
         ("4: number 65,536", 40),

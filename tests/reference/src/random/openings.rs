@@ -3,7 +3,7 @@
 //! lane is.
 
 use super::edges::{narrow, row_of};
-use super::entries::{gap_ends, known_number, number, speed, to_position};
+use super::entries::{gap_ends, known_number, number, number_left_behind, speed, to_position};
 use super::lengths::{length, to_length};
 use super::rates::rate;
 use super::Random;
@@ -44,9 +44,10 @@ fn place(random: &mut Random, lane: &Lane) -> usize {
 /// The gap of a place, or now and then one behind a number that no carrier has.
 fn gap(random: &mut Random, lane: &Lane, place: usize) -> Gap {
     let ahead = place.checked_sub(1).map(|ahead| lane.present()[ahead]);
-    match (ahead, random.below(24)) {
+    match (ahead, random.below(30)) {
         (_, 0) => Gap::Behind(random.pick(&[0, 65_536])),
-        (_, 1) => Gap::Behind(known_number(random, lane)),
+        (_, 1..=2) => Gap::Behind(number_left_behind(random, lane)),
+        (_, 3) => Gap::Behind(known_number(random, lane)),
         (Some(leader), _) => Gap::Behind(leader.number),
         (None, _) => Gap::AheadOfAll,
     }
