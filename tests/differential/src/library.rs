@@ -7,6 +7,7 @@ mod generate;
 mod host;
 mod host_call;
 mod notation;
+mod openings;
 mod outcome;
 mod reference;
 mod steps;

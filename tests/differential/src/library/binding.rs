@@ -2,7 +2,7 @@
 //! lane is looked at as plain words, row by row.
 
 /// The interface that this file is for.
-pub const VERSION: u32 = 6;
+pub const VERSION: u32 = 7;
 
 /// A lane as it is lent.
 pub type Words = [[u64; 8]; 89];
@@ -18,6 +18,14 @@ pub struct Road {
 pub struct Carrier {
     pub number: u64,
     pub position: u64,
+    pub speed: u64,
+    pub length: u64,
+    pub rate: u64,
+}
+
+/// What is known of a carrier before it has a number and a position.
+#[repr(C)]
+pub struct Newcomer {
     pub speed: u64,
     pub length: u64,
     pub rate: u64,
@@ -55,6 +63,14 @@ pub struct ReadOut {
 }
 
 #[repr(C)]
+pub struct Opening {
+    pub no: u32,
+    pub exists: Flag,
+    pub lowest: u64,
+    pub highest: u64,
+}
+
+#[repr(C)]
 pub struct Listed {
     pub no: u32,
     pub length: usize,
@@ -83,6 +99,12 @@ extern "C" {
         values_len: usize,
     ) -> Cycled;
     pub fn rondavitse_read(lane: *const Words, number: u64) -> ReadOut;
+    pub fn rondavitse_find_opening(
+        lane: *const Words,
+        head: u64,
+        number: u64,
+        newcomer: Newcomer,
+    ) -> Opening;
     pub fn rondavitse_lane_text(lane: *const Words, out: *mut u8, out_len: usize) -> Listed;
     pub fn rondavitse_surface(lane: *mut Words, surface: u64) -> u32;
     pub fn rondavitse_load(lane: *mut Words, text: *const u8, text_length: usize) -> u32;

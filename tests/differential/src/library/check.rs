@@ -3,7 +3,8 @@
 use super::binding::Words;
 use super::case::Case;
 use super::host;
-use super::host_call::HostCall;
+use super::host_call::{gap, HostCall};
+use super::openings;
 use super::outcome::Outcome;
 use super::reference;
 use super::words;
@@ -26,6 +27,7 @@ pub fn run(case: &Case) -> (u64, Result<(), String>) {
         let outcome = host::outcome(&mut lane, call);
         let wrong = compared(&before, call, &outcome)
             .and_then(|()| kept(&before, call, &outcome, &lane))
+            .and_then(|()| openings::tried(&before, call, &outcome))
             .and_then(|()| match &mut book {
                 Some(book) => recorded(book, call, &outcome),
                 None => Ok(()),
@@ -84,6 +86,14 @@ fn recorded(book: &mut Checker, call: &HostCall, outcome: &Outcome) -> Result<()
             sorts,
             values,
         } => (meant(*count, sorts, values), outcome.values[0]),
+        &HostCall::FindOpening {
+            head,
+            number,
+            newcomer,
+        } => {
+            let gap = gap(head, number);
+            (Call::FindOpening { gap, newcomer }, 0)
+        }
     };
     book.observe::<Fast>(&call, outcome.no != 0, word, &outcome.lane)
 }

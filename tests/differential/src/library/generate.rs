@@ -6,10 +6,10 @@ use super::host;
 use super::host_call::HostCall;
 use super::words;
 use lane_reference::random::{
-    calls_on, calls_on_empty, history, never_started_lane, sound_lane, unsound_lane, widened,
-    History, Random, EVEN, FLOAT_EDGES, LOADS, RAIN,
+    calls_on, calls_on_empty, gapped_lane, history, never_started_lane, short_lane, sound_lane,
+    unsound_lane, widened, History, Random, Weights, EVEN, FLOAT_EDGES, LOADS, OPENINGS, RAIN,
 };
-use lane_reference::{Call, Lane, Wish, PLACES};
+use lane_reference::{Call, Gap, Lane, Newcomer, Wish, PLACES};
 
 /// Units that 16 bits do not hold, by their 32 bits.
 const WIDE_UNITS: [u32; 8] = [
@@ -23,33 +23,39 @@ const WIDE_UNITS: [u32; 8] = [
     0x0001_0020,
 ];
 
+/// Plans of calls on a lane: all sorts of them, or loads and starts above all,
+/// changes of surface, or questions where one could enter.
+const ANY_PLAN: [Weights; 5] = [EVEN, EVEN, LOADS, RAIN, OPENINGS];
+
 /// Sorts that do not exist.
 const NO_SORTS: [u8; 6] = [4, 5, 8, 127, 128, 255];
 
 pub fn case(random: &mut Random) -> Case {
-    let (first, calls) = match random.below(9) {
+    let (first, calls) = match random.below(11) {
         0..=2 => {
             let History { first, calls } = history(random, 130);
             (words::of_lane(random, &first), calls)
         }
         3 => (host::empty(), calls_on_empty(random, 130)),
-        4..=5 => on_lane(random, sound_lane, 20),
-        6 => on_lane(random, never_started_lane, 8),
-        _ => on_lane(random, unsound_lane, 4),
+        4..=5 => on_lane(random, sound_lane, &ANY_PLAN, 20),
+        6 => on_lane(random, gapped_lane, &[OPENINGS], 20),
+        7 => on_lane(random, short_lane, &[OPENINGS], 20),
+        8 => on_lane(random, never_started_lane, &ANY_PLAN, 8),
+        _ => on_lane(random, unsound_lane, &ANY_PLAN, 4),
     };
     let calls = calls.into_iter().map(|call| hosted(random, call)).collect();
     Case { first, calls }
 }
 
-/// A lane and calls on it, all sorts of them, or loads and starts above all, or
-/// changes of surface.
+/// A lane and calls on it, as one of the plans has them.
 fn on_lane(
     random: &mut Random,
     lane: fn(&mut Random) -> Lane,
+    plans: &[Weights],
     length: usize,
 ) -> (Words, Vec<Call>) {
     let first = lane(random);
-    let plan = vec![random.pick(&[EVEN, EVEN, LOADS, RAIN]); length];
+    let plan = vec![random.pick(plans); length];
     let calls = calls_on(random, first, &plan);
     (words::of_lane(random, &first), calls)
 }
@@ -58,7 +64,10 @@ fn on_lane(
 fn hosted(random: &mut Random, call: Call) -> HostCall {
     let Call::Cycle { count, wishes } = call else {
         let wide = random.chance(3);
-        return HostCall::Plain(if wide { widened(random, &call) } else { call });
+        return match if wide { widened(random, &call) } else { call } {
+            Call::FindOpening { gap, newcomer } => asked(random, gap, newcomer),
+            call => HostCall::Plain(call),
+        };
     };
     match random.below(30) {
         0 => without_enough(random, count, &wishes),
@@ -67,6 +76,24 @@ fn hosted(random: &mut Random, call: Call) -> HostCall {
             let length = random.pick(&[PLACES, count.min(PLACES as u64) as usize]);
             listed(random, count, &wishes[..length])
         }
+    }
+}
+
+/// The question as a host asks it; the number that goes with a head is anything.
+fn asked(random: &mut Random, gap: Gap, newcomer: Newcomer) -> HostCall {
+    let any = random.bits();
+    let small = random.below(200);
+    let (head, number) = match gap {
+        Gap::Behind(number) => (0, number),
+        Gap::AheadOfAll => (
+            random.pick(&[1, 1, 2, 256, 1 << 32, any | 1, u64::MAX]),
+            random.pick(&[0, small, small, 65_536, any]),
+        ),
+    };
+    HostCall::FindOpening {
+        head,
+        number,
+        newcomer,
     }
 }
 

@@ -40,6 +40,11 @@ pub fn outcome(lane: &mut Words, call: &HostCall) -> Outcome {
             sorts,
             values,
         } => cycle(lane, *count as usize, sorts, values),
+        HostCall::FindOpening {
+            head,
+            number,
+            newcomer,
+        } => find_opening(lane, *head, *number, *newcomer),
     }
 }
 
@@ -76,6 +81,7 @@ fn plain(lane: &mut Words, call: &Call) -> (u32, Vec<u64>) {
         Call::Surface { surface } => (unsafe { rondavitse_surface(lane, surface) }, vec![]),
         Call::LaneText { .. } | Call::Load { .. } => unreachable!("these are lent a buffer"),
         Call::Cycle { .. } => unreachable!("a host's cycle is no plain call"),
+        Call::FindOpening { .. } => unreachable!("nor is a host's question"),
     }
 }
 
@@ -85,6 +91,23 @@ fn cycle(lane: &mut Words, count: usize, sorts: &[u8], values: &[u32]) -> Outcom
     let (replaced, gone) = (cycled.replaced.into(), cycled.gone.into());
     let values = [cycled.word, replaced, gone];
     Outcome::new(cycled.no, &values, &words::lane(lane))
+}
+
+fn find_opening(
+    lane: &Words,
+    head: u64,
+    number: u64,
+    newcomer: lane_reference::Newcomer,
+) -> Outcome {
+    let newcomer = Newcomer {
+        speed: newcomer.speed,
+        length: newcomer.length,
+        rate: newcomer.rate,
+    };
+    let opening = unsafe { rondavitse_find_opening(lane, head, number, newcomer) };
+    let exists = bool::from(opening.exists).into();
+    let values = [exists, opening.lowest, opening.highest];
+    Outcome::new(opening.no, &values, &words::lane(lane))
 }
 
 fn lane_text(lane: &Words, room: usize) -> Outcome {

@@ -1,11 +1,11 @@
 //! Calls as a host makes them.
 
-use lane_reference::Call;
+use lane_reference::{Call, Gap, Newcomer};
 
 /// A call of the library.
 #[derive(Clone, Debug, PartialEq, Eq)]
 pub enum HostCall {
-    /// Any call but a cycle.
+    /// Any call but a cycle or a question where one could enter.
     Plain(Call),
     /// A host gives wishes as two lists, which may be too short or hold what
     /// is no wish.
@@ -13,6 +13,12 @@ pub enum HostCall {
         count: u64,
         sorts: Vec<u8>,
         values: Vec<u32>,
+    },
+    /// Any head but 0 is ahead of all, and the number is then not looked at.
+    FindOpening {
+        head: u64,
+        number: u64,
+        newcomer: Newcomer,
     },
 }
 
@@ -22,6 +28,7 @@ impl HostCall {
         match *self {
             HostCall::Plain(Call::Enter(newcomer)) => Some(newcomer.number),
             HostCall::Plain(Call::Leave { number } | Call::Read { number }) => Some(number),
+            HostCall::FindOpening { number, .. } => Some(number),
             _ => None,
         }
     }
@@ -31,6 +38,15 @@ impl HostCall {
         matches!(
             self,
             HostCall::Plain(Call::Read { .. } | Call::LaneText { .. })
+                | HostCall::FindOpening { .. }
         )
+    }
+}
+
+/// The gap that a host means.
+pub fn gap(head: u64, number: u64) -> Gap {
+    match head {
+        0 => Gap::Behind(number),
+        _ => Gap::AheadOfAll,
     }
 }

@@ -4,7 +4,7 @@
 use super::binding::Words;
 use super::case::Case;
 use super::host_call::HostCall;
-use lane_reference::{Call, Carrier, Road};
+use lane_reference::{Call, Carrier, Newcomer, Road};
 use std::fmt::Write;
 use std::str::{FromStr, SplitWhitespace};
 
@@ -45,7 +45,24 @@ fn print_call(call: &HostCall) -> String {
         HostCall::Plain(Call::LaneText { room }) => format!("lane_text {room}\n"),
         HostCall::Plain(Call::Surface { surface }) => format!("surface {surface}\n"),
         HostCall::Plain(Call::Load { text }) => format!("load{}\n", joined(text)),
-        HostCall::Plain(Call::Cycle { .. }) => unreachable!("a host's cycle is no plain call"),
+        HostCall::Plain(Call::Cycle { .. } | Call::FindOpening { .. }) => {
+            unreachable!("a host's cycle or question is no plain call")
+        }
+        HostCall::FindOpening {
+            head,
+            number,
+            newcomer,
+        } => {
+            let Newcomer {
+                speed,
+                length,
+                rate,
+            } = *newcomer;
+            format!(
+                "find_opening{}\n",
+                joined(&[*head, *number, speed, length, rate])
+            )
+        }
         HostCall::Cycle {
             count,
             sorts,
@@ -107,6 +124,15 @@ fn parse_call(word: &str, words: &mut SplitWhitespace, calls: &mut Vec<HostCall>
             count: figure(words)?,
             sorts: Vec::new(),
             values: Vec::new(),
+        }),
+        ("find_opening", _) => calls.push(HostCall::FindOpening {
+            head: figure(words)?,
+            number: figure(words)?,
+            newcomer: Newcomer {
+                speed: figure(words)?,
+                length: figure(words)?,
+                rate: figure(words)?,
+            },
         }),
         _ => calls.push(HostCall::Plain(parse_plain(word, words)?)),
     }

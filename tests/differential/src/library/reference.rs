@@ -1,8 +1,8 @@
 //! The reference's answers, in the shape of the product's.
 
-use super::host_call::HostCall;
+use super::host_call::{gap, HostCall};
 use super::outcome::{lent, lent_text, within, Outcome};
-use lane_reference::{Answer, Call, Cycled, FastLane, Lane, Refusal, Supervisor};
+use lane_reference::{Answer, Call, Cycled, FastLane, Gap, Lane, Newcomer, Refusal, Supervisor};
 
 pub fn outcome(lane: &Lane, call: &HostCall) -> Outcome {
     match call {
@@ -16,6 +16,11 @@ pub fn outcome(lane: &Lane, call: &HostCall) -> Outcome {
             sorts,
             values,
         } => cycle(lane, *count, sorts, values),
+        HostCall::FindOpening {
+            head,
+            number,
+            newcomer,
+        } => find_opening(lane, gap(*head, *number), *newcomer),
     }
 }
 
@@ -33,6 +38,7 @@ fn values(answer: &Answer) -> Vec<u64> {
         Answer::Entered(place) => vec![*place as u64],
         Answer::Read(reading) => vec![reading.position.to_bits(), reading.speed.to_bits()],
         Answer::Cycled(_) => unreachable!("a host's cycle is no plain call"),
+        Answer::OpeningFound(_) => unreachable!("nor is a host's question"),
         Answer::LaneText(_) => unreachable!("lane texts go into a lent buffer"),
     }
 }
@@ -43,8 +49,19 @@ fn no_values(call: &Call) -> &'static [u64] {
         Call::Start { .. } | Call::Leave { .. } | Call::Surface { .. } | Call::Load { .. } => &[],
         Call::Enter { .. } | Call::LaneText { .. } => &[0],
         Call::Read { .. } => &[0; 2],
-        Call::Cycle { .. } => &[0; 3],
+        Call::Cycle { .. } | Call::FindOpening { .. } => &[0; 3],
     }
+}
+
+/// Both positions are 0 where there is no opening.
+fn find_opening(lane: &Lane, gap: Gap, newcomer: Newcomer) -> Outcome {
+    let found = FastLane(*lane).find_opening(gap, newcomer);
+    let no = found.err().map_or(0, Refusal::number);
+    let values = found
+        .ok()
+        .flatten()
+        .map_or([0; 3], |opening| [1, opening.lowest, opening.highest]);
+    Outcome::new(no, &values, lane)
 }
 
 fn lane_text(lane: &Lane, room: usize) -> Outcome {
