@@ -53,6 +53,11 @@ fn by_library(call: Call, sample: &mut Sample) -> (u32, Vec<u64>) {
             let figures = [answer.reading.position, answer.reading.speed];
             (answer.no, figures.map(f64::to_bits).to_vec())
         }
+        Call::Opening => {
+            let answer = library::opening(sample);
+            let values = [answer.exists.into(), answer.lowest, answer.highest];
+            (answer.no, values.to_vec())
+        }
         Call::LaneText => {
             let answer = library::lane_text(sample);
             (answer.no, vec![answer.length as u64])
@@ -74,6 +79,10 @@ fn by_reference(call: Call, sample: &mut Sample) -> Result<Vec<u64>, Refusal> {
         Call::Read => {
             let reading = reference::read(sample)?;
             [reading.position, reading.speed].map(f64::to_bits).to_vec()
+        }
+        Call::Opening => {
+            let opening = reference::opening(sample)?.expect("a question with an opening");
+            vec![1, opening.lowest, opening.highest]
         }
         Call::LaneText => vec![reference::lane_text(sample)? as u64],
         Call::Surface => reference::surface(sample).map(|()| vec![])?,

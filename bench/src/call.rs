@@ -10,18 +10,20 @@ pub enum Call {
     Leave,
     Cycle,
     Read,
+    Opening,
     LaneText,
     Surface,
     Load,
 }
 
 impl Call {
-    pub const ALL: [Call; 8] = [
+    pub const ALL: [Call; 9] = [
         Call::Start,
         Call::Enter,
         Call::Leave,
         Call::Cycle,
         Call::Read,
+        Call::Opening,
         Call::LaneText,
         Call::Surface,
         Call::Load,
@@ -34,6 +36,7 @@ impl Call {
             Call::Leave => "leave",
             Call::Cycle => "cycle",
             Call::Read => "read",
+            Call::Opening => "opening",
             Call::LaneText => "lane text",
             Call::Surface => "surface",
             Call::Load => "load",

@@ -1,16 +1,17 @@
 //! The library's calls on a sample's lane.
 
 use crate::call::{consume, Call};
-use crate::sample::{carrier, Sample};
+use crate::sample::{carrier, newcomer, Sample};
 use rondavitse::binding::*;
 
 /// The functions of a call by their symbols.
-pub const SYMBOLS: [&str; 8] = [
+pub const SYMBOLS: [&str; 9] = [
     "rondavitse_start",
     "rondavitse_enter",
     "rondavitse_leave",
     "rondavitse_cycle",
     "rondavitse_read",
+    "rondavitse_find_opening",
     "rondavitse_lane_text",
     "rondavitse_surface",
     "rondavitse_load",
@@ -23,6 +24,7 @@ pub fn run(call: Call) -> fn(&mut Sample) {
         Call::Leave => |sample| consume(leave(sample)),
         Call::Cycle => |sample| consume(cycle(sample)),
         Call::Read => |sample| consume(read(sample)),
+        Call::Opening => |sample| consume(opening(sample)),
         Call::LaneText => |sample| consume(lane_text(sample)),
         Call::Surface => |sample| consume(surface(sample)),
         Call::Load => |sample| consume(load(sample)),
@@ -52,6 +54,11 @@ pub fn cycle(sample: &mut Sample) -> Cycled {
 
 pub fn read(sample: &mut Sample) -> ReadOut {
     unsafe { rondavitse_read(&sample.lanes.library, sample.asked) }
+}
+
+pub fn opening(sample: &mut Sample) -> Opening {
+    let (lane, newcomer) = (&sample.lanes.library, newcomer(sample.newcomer));
+    unsafe { rondavitse_find_opening(lane, 0, sample.leader, newcomer) }
 }
 
 pub fn lane_text(sample: &mut Sample) -> Listed {

@@ -3,15 +3,18 @@
 
 use crate::call::{consume, Call};
 use crate::sample::Sample;
-use lane_reference::{Carrier, Cycled, FastLane, Reading, Refusal, Road, Supervisor};
+use lane_reference::{
+    Carrier, Cycled, FastLane, Gap, Newcomer, Opening, Reading, Refusal, Road, Supervisor,
+};
 
 /// The functions of a call by their symbols.
-pub const SYMBOLS: [&str; 8] = [
+pub const SYMBOLS: [&str; 9] = [
     "reference_start",
     "reference_enter",
     "reference_leave",
     "reference_cycle",
     "reference_read",
+    "reference_find_opening",
     "reference_lane_text",
     "reference_surface",
     "reference_load",
@@ -24,6 +27,7 @@ pub fn run(call: Call) -> fn(&mut Sample) {
         Call::Leave => |sample| consume(leave(sample)),
         Call::Cycle => |sample| consume(cycle(sample)),
         Call::Read => |sample| consume(read(sample)),
+        Call::Opening => |sample| consume(opening(sample)),
         Call::LaneText => |sample| consume(lane_text(sample)),
         Call::Surface => |sample| consume(surface(sample)),
         Call::Load => |sample| consume(load(sample)),
@@ -52,6 +56,11 @@ pub fn cycle(sample: &mut Sample) -> Result<Cycled, Refusal> {
 
 pub fn read(sample: &mut Sample) -> Result<Reading, Refusal> {
     reference_read(&sample.lanes.reference, sample.asked)
+}
+
+pub fn opening(sample: &mut Sample) -> Result<Option<Opening>, Refusal> {
+    let gap = Gap::Behind(sample.leader);
+    reference_find_opening(&sample.lanes.reference, gap, sample.newcomer)
 }
 
 pub fn lane_text(sample: &mut Sample) -> Result<usize, Refusal> {
@@ -99,6 +108,16 @@ fn reference_cycle(
 #[inline(never)]
 fn reference_read(lane: &FastLane, number: u64) -> Result<Reading, Refusal> {
     lane.read(number)
+}
+
+#[no_mangle]
+#[inline(never)]
+fn reference_find_opening(
+    lane: &FastLane,
+    gap: Gap,
+    newcomer: Newcomer,
+) -> Result<Option<Opening>, Refusal> {
+    lane.find_opening(gap, newcomer)
 }
 
 #[no_mangle]
