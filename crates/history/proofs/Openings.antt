@@ -1,5 +1,6 @@
 -- An opening along a history: by the book its positions are exactly those at which a newcomer fits, and there, and nowhere else, an entry is let in.
 use mathlib.Core.Path.{_≡_, refl, sym, ap, _∙_, subst}
+use mathlib.Core.Bool.{Bool, true, false, cond}
 use mathlib.Core.List.{List, _∷_, _++_}
 use Prim.Native.Nat.{ℕ, _≤_, _<_}
 use native.Mathlib.Omega.{arith}
@@ -10,20 +11,25 @@ use Rattle.lane.specs.declared.Gap.the-variants.{Behind, AheadOfAll}
 use Rattle.lane.specs.declared.Newcomer.{Newcomer}
 use Rattle.lane.specs.State.{State}
 use Rattle.lane.specs.Layout.{Words, stateOf}
+use Rattle.lane.specs.Rules.{broken}
 use Rattle.lane.specs.Opening.{gapPlace, Span}
 use Rattle.lane.specs.Call.{Call, enter-call, opening-call, Answer, callNo, callAnswer}
 use Rattle.lane.proofs.CallLaws.{answer-number}
-use Rattle.lane.proofs.OpeningLaws.{gap-ahead-of-all, gap-behind, gap-there, opening-numbers, opening-entry}
+use Rattle.lane.proofs.OpeningLaws.{opening-in-order, gap-ahead-of-all, gap-behind, gap-there, opening-numbers, opening-ends, opening-entry}
 use Rattle.history.specs.Book.{Book, begun}
 use Rattle.history.specs.Claims.{carrierAt}
 use Rattle.history.specs.History.{Event, bookOn, laneAfter, Ran, Chain, chain-next}
-use Rattle.history.specs.Openings.{GapAt, Between, FitsAt, OpeningsExact, OpeningsEnter, Openings}
+use Rattle.history.specs.Openings.{GapAt, Between, FitsAt, numberAsked, OpeningsNumbered, OpeningsExact, OpeningsEnter, Openings}
 use Rattle.history.proofs.Agreement.{counted, empty-agrees}
 use Rattle.history.proofs.CycleRuns.{bookOf}
 use Rattle.history.proofs.History.{ran-gives, agrees-after}
 use Rattle.history.proofs.Rows.{parts}
 
 -- ---- of one state
+
+past-21 : (t : Bool) (later : ℕ) → ¬ (cond t 21 later ≡ 21) → cond t 21 later ≡ later
+past-21 true later h = absurd (h refl)
+past-21 false later h = refl
 
 -- the place that is asked for
 gap-is : (g : Gap) (s : State) (n : Newcomer) → callNo (opening-call g n) s ≡ 0 → (place : ℕ) → GapAt g (bookOf s) place → gapPlace g (s .carriers) ≡ place
@@ -34,20 +40,28 @@ is-gap : (g : Gap) (s : State) (n : Newcomer) → callNo (opening-call g n) s �
 is-gap (Behind number) s n z = gap-there s number n z
 is-gap AheadOfAll s n z = gap-ahead-of-all (s .carriers)
 
--- what is said of the positions that are answered
-abbrev Exact : Gap → Newcomer → (position : ℕ) → Span → Book → Type 0
-Exact g n position a b =
-    (Between a position → (place : ℕ) × GapAt g b place × FitsAt b n position place)
-    × ((place : ℕ) → GapAt g b place → FitsAt b n position place → Between a position)
+-- its number
+numbered-so : (g : Gap) (s : State) (n : Newcomer) → ¬ (callNo (opening-call g n) s ≡ 21) → callNo (opening-call g n) s ≡ numberAsked g n (bookOf s)
+numbered-so (Behind number) s n h = let e = opening-in-order s number n .0 in e ∙ past-21 (broken s) _ (λ z. h (e ∙ z))
+numbered-so AheadOfAll s n h = let e = opening-in-order s 0 n .1 in e ∙ past-21 (broken s) _ (λ z. h (e ∙ z))
 
-exact : (g : Gap) (s : State) (n : Newcomer) (position : ℕ) → callNo (opening-call g n) s ≡ 0
-    → Exact g n position (callAnswer (opening-call g n) s .span) (bookOf s)
-exact g s n position z =
-    let numbers = opening-numbers s g n position z in (
-      λ h. (gapPlace g (s .carriers), is-gap g s n z, numbers .0 h),
-      λ place at fits.
+-- what is said of the positions that are answered
+abbrev Exact : Gap → Newcomer → Span → Book → Type 0
+Exact g n a b =
+    ((position : ℕ) → Between a position → (place : ℕ) × GapAt g b place × FitsAt b n position place)
+    × ((position place : ℕ) → GapAt g b place → FitsAt b n position place → Between a position)
+    × (a .exists ≡ true → a .lowest ≤ a .highest)
+    × (a .exists ≡ false → (a .lowest ≡ 0) × (a .highest ≡ 0))
+
+exact : (g : Gap) (s : State) (n : Newcomer) → callNo (opening-call g n) s ≡ 0 → Exact g n (callAnswer (opening-call g n) s .span) (bookOf s)
+exact g s n z =
+    let ends = opening-ends s g n z in (
+      λ position h. (gapPlace g (s .carriers), is-gap g s n z, opening-numbers s g n position z .0 h),
+      λ position place at fits.
           let there : FitsAt (bookOf s) n position (gapPlace g (s .carriers)) = subst (FitsAt (bookOf s) n position) (sym (gap-is g s n z place at)) fits in
-          numbers .1 (there .0) (there .1) (there .2),
+          opening-numbers s g n position z .1 (there .0) (there .1) (there .2),
+      ends .0,
+      ends .1,
     )
 
 -- and of an entry
@@ -80,13 +94,22 @@ behind-first : {e : Event} {rest : List Event} {l d : Words} → Chain l (e ∷ 
 behind-first (chain-next g w r) = r
 
 module _ {l d : Words} {es : List Event} (none : stateOf l .count ≡ 0) (c : Chain l es d) where
-  chain-exact : OpeningsExact l es
-  chain-exact before ask later g n position is is-ask asked =
+  chain-numbered : OpeningsNumbered l es
+  chain-numbered before ask later g n is is-ask passes =
       let two = parts before (subst (λ (es : List Event). Chain l es d) is c) in
+      let x = opening-call g n in
       let s = stateOf (laneAfter l before) in
-      let told = answered (two .1) (opening-call g n) is-ask in
-      subst (Exact g n position (ask .answer .span)) (agrees-after (begun l) (empty-agrees l none) (two .0) .same)
-      (subst (λ (a : Answer). Exact g n position (a .span) (bookOf s)) (sym told) (exact g s n position (accepted (opening-call g n) s told asked)))
+      let number : ask .answer .number ≡ callNo x s = ap (λ (a : Answer). a .number) (answered (two .1) x is-ask) ∙ answer-number x s in
+      number ∙ numbered-so g s n (λ z. passes (number ∙ z)) ∙ ap (numberAsked g n) (agrees-after (begun l) (empty-agrees l none) (two .0) .same)
+
+  chain-exact : OpeningsExact l es
+  chain-exact before ask later g n is is-ask asked =
+      let two = parts before (subst (λ (es : List Event). Chain l es d) is c) in
+      let x = opening-call g n in
+      let s = stateOf (laneAfter l before) in
+      let told = answered (two .1) x is-ask in
+      subst (Exact g n (ask .answer .span)) (agrees-after (begun l) (empty-agrees l none) (two .0) .same)
+      (subst (λ (a : Answer). Exact g n (a .span) (bookOf s)) (sym told) (exact g s n (accepted x s told asked)))
 
   chain-enter : OpeningsEnter l es
   chain-enter before ask between enter later g k is is-ask asked same is-enter =
@@ -103,7 +126,7 @@ module _ {l d : Words} {es : List Event} (none : stateOf l .count ≡ 0) (c : Ch
       (rw (span, number, place) (enters g s k (counted (agree .good)) (accepted x s told asked)))
 
   pub chain-openings : Openings l es
-  chain-openings = (chain-exact, chain-enter)
+  chain-openings = (chain-numbered, chain-exact, chain-enter)
 
 -- in every list of calls from an empty lane
 pub openings : (l : Words) → stateOf l .count ≡ 0 → (es : List Event) (d : Words) → Ran l es d → Openings l es

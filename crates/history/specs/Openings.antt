@@ -1,8 +1,9 @@
 -- Document 02, T-07, along a history: which positions lie between the two that are answered, and what becomes of an entry there.
 use Prim.Native.Nat.{ℕ, _+_, _-_, _≤_, _<_, min}
 use mathlib.Core.Path.{_≡_}
-use mathlib.Core.Bool.{true}
+use mathlib.Core.Bool.{true, false, _||_, cond}
 use mathlib.Core.List.{List, _∷_, _++_}
+use lib.Dec.{ltb}
 use lib.ListN.{length}
 use Rattle.headway.specs.Stopping.{stoppingDistance}
 use Rattle.lane.specs.declared.Carrier.{Carrier}
@@ -11,6 +12,7 @@ use Rattle.lane.specs.declared.Gap.the-variants.{Behind, AheadOfAll}
 use Rattle.lane.specs.declared.Newcomer.{Newcomer}
 use Rattle.lane.specs.Surface.{rowIn}
 use Rattle.lane.specs.Layout.{Words, stateOf}
+use Rattle.lane.specs.Safety.{anyOf, numbered}
 use Rattle.lane.specs.Opening.{Span}
 use Rattle.lane.specs.Call.{enter-call, opening-call}
 use Rattle.history.specs.Book.{Book, begun}
@@ -40,15 +42,36 @@ FitsAt b n position place =
     → (d .position + n .length < position)
     × (d .position + n .length + stoppingDistance (min (d .rate) (r .guaranteed)) (d .speed) < position + stoppingDistance (r .hardest) (n .speed)))
 
--- an accepted opening answers exactly those positions, by the book, a full one too
+-- "After 21 come 4 and 24 for a named carrier, then 6, 33 and 35": the number of an opening on a lane that 21 passes, by the book
+abbrev pub valuesAsked : Newcomer → Book → ℕ
+valuesAsked n b =
+    cond (ltb (b .road .limit) (n .speed)) 6 (cond (ltb 65535 (n .length)) 33 (cond (ltb (n .rate) 1 || ltb 255 (n .rate)) 35 0))
+
+abbrev pub numberAsked : Gap → Newcomer → Book → ℕ
+numberAsked (Behind number) n b =
+    cond (ltb number 1 || ltb 65535 number) 4 (cond (anyOf (numbered number) (b .carriers)) (valuesAsked n b) 24)
+numberAsked AheadOfAll n b = valuesAsked n b
+
+abbrev pub OpeningsNumbered : Words → List Event → Type 0
+OpeningsNumbered l es =
+    (before : List Event) (ask : Event) (later : List Event) (g : Gap) (n : Newcomer)
+    → es ≡ before ++ (ask ∷ later)
+    → ask .call ≡ opening-call g n → ¬ (ask .answer .number ≡ 21)
+    → ask .answer .number ≡ numberAsked g n (bookOn (begun l) before)
+
+-- an accepted opening answers exactly those positions, by the book, a full one too; where there is one the lowest is at most the highest, and where
+-- there is none both are 0
 abbrev pub OpeningsExact : Words → List Event → Type 0
 OpeningsExact l es =
-    (before : List Event) (ask : Event) (later : List Event) (g : Gap) (n : Newcomer) (position : ℕ)
+    (before : List Event) (ask : Event) (later : List Event) (g : Gap) (n : Newcomer)
     → es ≡ before ++ (ask ∷ later)
     → ask .call ≡ opening-call g n → ask .answer .number ≡ 0
     → let b = bookOn (begun l) before in
-    (Between (ask .answer .span) position → (place : ℕ) × GapAt g b place × FitsAt b n position place)
-    × ((place : ℕ) → GapAt g b place → FitsAt b n position place → Between (ask .answer .span) position)
+    let a = ask .answer .span in
+    ((position : ℕ) → Between a position → (place : ℕ) × GapAt g b place × FitsAt b n position place)
+    × ((position place : ℕ) → GapAt g b place → FitsAt b n position place → Between a position)
+    × (a .exists ≡ true → a .lowest ≤ a .highest)
+    × (a .exists ≡ false → (a .lowest ≡ 0) × (a .highest ≡ 0))
 
 -- "Each position between the two would be admitted by those checks.": as long as the lane's state is as when it was asked, an entry of those values,
 -- whose number no carrier of the book has and with fewer than 64 there, is let in right behind the one named, or ahead of all, exactly where its
@@ -65,6 +88,6 @@ OpeningsEnter l es =
     → (Between (ask .answer .span) (c .position) → (enter .answer .number ≡ 0) × GapAt g b (enter .answer .place))
     × (enter .answer .number ≡ 0 → GapAt g b (enter .answer .place) → Between (ask .answer .span) (c .position))
 
--- both of a list
+-- all of a list
 abbrev pub Openings : Words → List Event → Type 0
-Openings l es = OpeningsExact l es × OpeningsEnter l es
+Openings l es = OpeningsNumbered l es × OpeningsExact l es × OpeningsEnter l es

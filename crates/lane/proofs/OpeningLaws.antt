@@ -1,11 +1,11 @@
 -- Document 02, T-07, in numbers: which positions lie between the two that are answered, and that an entry there, and nowhere else in the gap, is let in.
 use mathlib.Core.Path.{_≡_, refl, sym, ap, _∙_}
-use mathlib.Core.Bool.{Bool, true, false}
+use mathlib.Core.Bool.{Bool, true, false, _||_, cond}
 use mathlib.Core.List.{List, [], _∷_}
 use Prim.Native.Nat.{ℕ, zero, suc, _+_, _-_, _≤_, _<_, min}
 use native.Mathlib.Omega.{arith}
 use borrow.Author.Tests.{eq-eqb, ne-eqb, eqb-true, eqb-false}
-use lib.Dec.{eqb}
+use lib.Dec.{ltb}
 use lib.ListN.{length, getD}
 use Rattle.headway.specs.Stopping.{stoppingDistance}
 use Rattle.lane.specs.declared.Carrier.{Carrier}
@@ -16,14 +16,15 @@ use Rattle.lane.specs.declared.Row.{Row}
 use Rattle.lane.specs.Surface.{rowIn}
 use Rattle.lane.specs.State.{State}
 use Rattle.lane.specs.Safety.{Ahead, nobody, leader, safeWith, anyOf, firstPlace, numbered, repeats}
-use Rattle.lane.specs.Calls.{none, aheadOf, gapNo, placeOf}
-use Rattle.lane.specs.Opening.{newcomerAt, gapPlace, opens, Span, spanOf, openingIn}
+use Rattle.lane.specs.Rules.{badNumber, broken}
+use Rattle.lane.specs.Calls.{none, ifAccepted, aheadOf, gapNo, namedNo, placeOf}
+use Rattle.lane.specs.Opening.{newcomerAt, gapPlace, opens, Span, spanOf, openingIn, gapNamedNo, openingNo}
 use Rattle.lane.specs.Call.{enter-call, opening-call, Answer, callNo, callAnswer}
 use Rattle.lane.proofs.Newcomers.{Newcomer as InRange, values-are}
 use Rattle.lane.proofs.EntryLaws.{entry-by-gap}
 use Rattle.lane.proofs.lists.Search.{place-passes}
 use Rattle.lane.proofs.lists.Tests.{neither, none-at}
-use Rattle.lane.proofs.checks.Spans.{between-passes, passes-between}
+use Rattle.lane.proofs.checks.Spans.{between-passes, passes-between, span-ends}
 use Rattle.lane.proofs.checks.Soundness.{sound-holds}
 use Rattle.lane.proofs.calls.Answers.{Asks, accepted-answers, opening-tells, enter-tells}
 use Rattle.lane.proofs.calls.Openings.{opens-at, opens-there, opens-formula, opens-where, opens-says}
@@ -31,6 +32,26 @@ use Rattle.lane.proofs.calls.Openings.{opens-at, opens-there, opens-for
 -- a carrier's speed, length and own rate
 abbrev valuesOf : Carrier → Newcomer
 valuesOf c = record { speed = c .speed; length = c .length; rate = c .rate }
+
+-- ---- the checks in order: "After 21 come 4 and 24 for a named carrier, then 6, 33 and 35"; who breaks several is told the first
+pub opening-in-order : (s : State) (number : ℕ) (n : Newcomer) →
+    let values : ℕ = cond (ltb (s .road .limit) (n .speed)) 6 (cond (ltb 65535 (n .length)) 33 (cond (ltb (n .rate) 1 || ltb 255 (n .rate)) 35 0)) in
+    (callNo (opening-call (Behind number) n) s
+    ≡ cond (broken s) 21 (cond (ltb number 1 || ltb 65535 number) 4 (cond (anyOf (numbered number) (s .carriers)) values 24)))
+    × (callNo (opening-call AheadOfAll n) s ≡ cond (broken s) 21 values)
+unfolding openingNo gapNamedNo namedNo
+opening-in-order s number n = (behind (broken s) (badNumber number) (anyOf (numbered number) (s .carriers)) _, ahead (broken s) _)
+  where
+    behind : (b bad there : Bool) (values : ℕ)
+        → ifAccepted (cond b 21 (cond bad 4 (cond there 0 24))) values (cond b 21 (cond bad 4 (cond there 0 24))) ≡ cond b 21 (cond bad 4 (cond there values 24))
+    behind true bad there values = refl
+    behind false true there values = refl
+    behind false false true values = refl
+    behind false false false values = refl
+
+    ahead : (b : Bool) (values : ℕ) → ifAccepted (cond b 21 0) values (cond b 21 0) ≡ cond b 21 values
+    ahead true values = refl
+    ahead false values = refl
 
 -- ---- the gap that is asked for
 
@@ -122,6 +143,15 @@ unnumbered r (leader a) c = refl
 gap-unnumbered : (r : Row) (place : ℕ) (c : Carrier) (cs : List Carrier) → gapNo r place c cs ≡ gapNo r place (newcomerAt (valuesOf c) (c .position)) cs
 unfolding gapNo safeWith
 gap-unnumbered r place c cs = rw (unnumbered r (aheadOf place cs) c) refl
+
+-- where there is one the lowest is at most the highest, and where there is none both are 0
+pub opening-ends : (s : State) (g : Gap) (n : Newcomer) → callNo (opening-call g n) s ≡ 0 →
+    let a = callAnswer (opening-call g n) s .span in
+    (a .exists ≡ true → a .lowest ≤ a .highest) × (a .exists ≡ false → (a .lowest ≡ 0) × (a .highest ≡ 0))
+opening-ends s g n e =
+    let h = told s g n e in
+    let f = opens-formula s (place s g n e) n (h .sound .carriers .safe) (h .within) in
+    rw (span-is s g n e) (span-ends (opens s (place s g n e) n) (f .0) (f .1) (omega (arith, f .2, h .sound .road .end-most)) (f .3))
 
 -- so an entry of these values, with a free number and a free place, is let in at the place asked for exactly where its position is between the two
 pub opening-entry : (s : State) (g : Gap) (c : Carrier) →

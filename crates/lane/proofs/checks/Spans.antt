@@ -1,6 +1,6 @@
 -- The lowest and the highest number that pass a test, where those that do are all from one number up to another.
 use mathlib.Core.Path.{_≡_, refl, sym, ap, _∙_}
-use mathlib.Core.Bool.{Bool, true, false, _&&_, cond, false≢true}
+use mathlib.Core.Bool.{Bool, true, false, _&&_, cond, true≢false, false≢true}
 use mathlib.Core.Logic.{by-cases}
 use Prim.Native.Nat.{ℕ, zero, suc, _-_, _≤_, _<_}
 use native.Mathlib.Decide.{decLt}
@@ -77,3 +77,12 @@ module _ (test : ℕ → Bool) (low end : ℕ) (h : end ≤ positions) (passes :
 
     pub passes-between : test p ≡ true → (spanOf test .exists ≡ true) × (spanOf test .lowest ≤ p) × (p ≤ spanOf test .highest)
     passes-between e = let h = passing e in rw (span-some (omega (arith, h .0, h .1))) (refl, h .0, omega (arith, h .1))
+
+-- a span is of some numbers, or of none with both ends 0
+pub span-ends : (test : ℕ → Bool) (low end : ℕ) → end ≤ positions → ((p : ℕ) → test p ≡ leb low p && ltb p end)
+    → (spanOf test .exists ≡ true → spanOf test .lowest ≤ spanOf test .highest)
+    × (spanOf test .exists ≡ false → (spanOf test .lowest ≡ 0) × (spanOf test .highest ≡ 0))
+span-ends test low end h passes =
+    by-cases (decLt low end)
+    (λ k. rw (span-some test low end h passes k) (λ e. omega arith, λ e. absurd (true≢false e)))
+    (λ k. rw (span-none test low end h passes (omega arith)) (λ e. absurd (false≢true e), λ e. (refl, refl)))
