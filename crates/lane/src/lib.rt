@@ -254,16 +254,16 @@ pub fn read(l: &Lane, number: u64) -> ReadOut
 pub fn find_opening(l: &Lane, gap: Gap, newcomer: Newcomer) -> Opening
     ensures { λ r. ⌜ Gives (opening-call gap newcomer) (now (l .entry)) (opening r) (now (l .entry)) ⌝ }
 {
-    let k = openings::check_opening(l, gap, newcomer);
-    if k.no != 0 {
+    let asked = openings::check_opening(l, gap, newcomer);
+    if asked.no != 0 {
         return Opening {
-            no: k.no,
+            no: asked.no,
             exists: false,
             lowest: 0,
             highest: 0,
         };
     }
-    openings::opening_at(l, k.place, newcomer)
+    openings::opening_at(l, asked.place, newcomer)
 }
 
 // The lane text into a lent buffer, and its length.
