@@ -255,6 +255,7 @@ pub fn find_opening(l: &Lane, gap: Gap, newcomer: Newcomer) -> Opening
     ensures { λ r. ⌜ Gives (opening-call gap newcomer) (now (l .entry)) (opening r) (now (l .entry)) ⌝ }
 {
     let asked = openings::check_opening(l, gap, newcomer);
+    let place = asked.place;
     if asked.no != 0 {
         return Opening {
             no: asked.no,
@@ -263,7 +264,7 @@ pub fn find_opening(l: &Lane, gap: Gap, newcomer: Newcomer) -> Opening
             highest: 0,
         };
     }
-    openings::opening_at(l, asked.place, newcomer)
+    openings::opening_at(l, place, newcomer)
 }
 
 // The lane text into a lent buffer, and its length.
