@@ -12,5 +12,6 @@ pub mod Answered
 pub mod Rows
 pub mod Changes
 pub mod Openings
+pub mod Beginnings
 pub mod Consequences
 pub mod Remaining

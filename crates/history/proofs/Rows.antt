@@ -22,22 +22,22 @@ use Rattle.history.proofs.History.{ran-gives}
 -- ---- one call
 
 -- what the calls leave of the carriers' ground: the road and the tables
-record Ground : Type 0 where
-  road : Road
-  tables : Tables
+pub record Ground : Type 0 where
+  pub road : Road
+  pub tables : Tables
 
-abbrev groundOf : State → Ground
+abbrev pub groundOf : State → Ground
 groundOf s = record { road = s .road; tables = s .tables }
 
 -- after an accepted call of a kind
-abbrev groundAfter : {x : Call} → Kind x → Ground → Ground
+abbrev pub groundAfter : {x : Call} → Kind x → Ground → Ground
 groundAfter (begins road first) g = record { road = road; tables = record { inForce = g .tables .next; next = g .tables .next } }
 groundAfter (loads text) g = record { road = g .road; tables = record { inForce = g .tables .inForce; next = rowsLoaded (tableIn text) } }
 groundAfter (surfaces code) g = record { road = record { surface = code; end = g .road .end; limit = g .road .limit }; tables = g .tables }
 groundAfter (runs count wishes) g = g
 groundAfter (other x) g = g
 
-accepted-ground : (x : Call) (s : State) → callNo x s ≡ 0 → groundOf (callState x s) ≡ groundAfter (kindOf x) (groundOf s)
+pub accepted-ground : (x : Call) (s : State) → callNo x s ≡ 0 → groundOf (callState x s) ≡ groundAfter (kindOf x) (groundOf s)
 accepted-ground (start-call road first) s z = ap groundOf (start-accepted s road first z)
 accepted-ground (load-call text) s z = ap groundOf (load-accepted s text z)
 accepted-ground (enter-call c) s z = ap groundOf (enter-accepted s c z)

@@ -1,6 +1,6 @@
 -- One table has one text: the reader takes the text of eight sound rows for them, and whatever it takes is the text of what it takes it for.
 use mathlib.Core.Path.{_≡_, refl, ap}
-use mathlib.Core.Bool.{false, cond}
+use mathlib.Core.Bool.{false, cond, true≢false}
 use mathlib.Core.List.{List, [], _∷_, _++_, append-assoc}
 use Prim.Native.Nat.{ℕ, zero, suc, _≤_, _<_}
 use native.Mathlib.Omega.{arith}
@@ -18,8 +18,11 @@ use Rattle.text.proofs.Laws.{decimal-at-most, length-line}
 use Rattle.text.proofs.ReadLaws.{number-is, number-value, no-number, no-bytes, no-newline, field-read, field-whole, length-of-line, decimal-no-newline}
 use Rattle.lane.specs.declared.Row.{Row}
 use Rattle.lane.specs.Surface.{row, rowOf, unsound}
-use Rattle.lane.specs.Table.{rowText, tableText, Rows, rows, malformed, before, numberMost, numberLine, rowLines, rowsIn, tableIn}
+use Rattle.lane.specs.State.{State}
+use Rattle.lane.specs.Table.{rowText, tableText, Rows, rows, malformed, before, numberMost, numberLine, rowLines, rowsIn, tableIn, badTable, rowsLoaded}
+use Rattle.lane.specs.Call.{load-call, callNo}
 use Rattle.lane.proofs.checks.Surfaces.{SoundRow, sound-at}
+use Rattle.lane.proofs.calls.Answers.{load-tells}
 
 -- ---- what the reader takes
 
@@ -105,3 +108,20 @@ rows-again (r ∷ rs) h =
 pub table-text : (rs : List Row) → length rs ≡ 8 → unsound rs ≡ false → tableIn (tableText rs) ≡ rows rs
 unfolding tableIn
 table-text rs eight e = rw eight at (rows-again rs (λ i p. sound-at rs i (omega arith) e))
+
+-- ---- a load of a text
+
+-- that of eight sound rows is good, and they are the rows that it brings
+pub text-brings : (rs : List Row) → length rs ≡ 8 → unsound rs ≡ false
+    → (badTable (tableIn (tableText rs)) ≡ false) × (rowsLoaded (tableIn (tableText rs)) ≡ rs)
+unfolding badTable rowsLoaded
+text-brings rs eight e = rw (table-text rs eight e) (e, refl)
+
+-- and one that is accepted is the text of the rows that it brings
+pub brought-text : (s : State) (text : List ℕ) → callNo (load-call text) s ≡ 0 → text ≡ tableText (rowsLoaded (tableIn text))
+unfolding badTable rowsLoaded
+brought-text s text z = by-rows (tableIn text) refl (load-tells s text z .good)
+  where
+    by-rows : (x : Rows) → tableIn text ≡ x → badTable x ≡ false → text ≡ tableText (rowsLoaded x)
+    by-rows (rows rs) e good = table-taken text rs e
+    by-rows malformed e good = absurd (true≢false good)

@@ -5,7 +5,7 @@ ghost use lib.ListN.{length, getD};
 ghost use Rattle.lane.specs.Layout.{stateOf};
 ghost use Rattle.lane.specs.Safety.{numbered};
 ghost use Rattle.lane.specs.Calls.{none};
-ghost use Rattle.lane.specs.Lookup.{lookup};
+ghost use Rattle.lane.specs.Lookup.{lookup, RestsOn};
 use crate::Lane;
 use crate::MOST_CARRIERS;
 use crate::layout;
@@ -46,7 +46,8 @@ fn look(l: &Lane, number: u64, looked: &mut usize) -> bool
 
 // The first place with the number. The search ends there or at the last carrier present.
 pub fn find(l: &Lane, number: u64) -> Lookup
-    ensures { λ r. ⌜ r ≡ lookup number (stateOf (now (l .entry)) .carriers) ⌝ }
+    ensures found { λ r. ⌜ r ≡ lookup number (stateOf (now (l .entry)) .carriers) ⌝ }
+    ensures rests { λ r. ⌜ RestsOn number (stateOf (now (l .entry)) .carriers) (r .looked) ⌝ }
 {
     let count = present(l);
     let mut looked: usize = 0;

@@ -1,5 +1,5 @@
 -- What the search has passed has another number, and where it stops stands the number, or the end.
-use mathlib.Core.Path.{_≡_, sym, _∙_}
+use mathlib.Core.Path.{_≡_, sym, _∙_, subst}
 use mathlib.Core.List.{List}
 use Prim.Native.Nat.{ℕ, _+_, _-_, _≤_, _<_}
 use native.Mathlib.Nat.{zero-add}
@@ -8,9 +8,12 @@ use borrow.Author.Needs.{needs}
 use lib.ListN.{length}
 use lib.Seq.{slice, take-length}
 use Rattle.lane.specs.declared.Carrier.{Carrier}
+use Rattle.lane.specs.declared.lookup.Lookup.{Lookup}
 use Rattle.lane.specs.Layout.{stateOf}
 use Rattle.lane.specs.Safety.{firstPlace, numbered}
+use Rattle.lane.specs.Lookup.{lookup, RestsOn}
 use Rattle.lane.proofs.lists.Lookups.{ends-found, goes-on, ends-absent, looks-at}
+use Rattle.lane.proofs.Looked.{looked-exact}
 use Rattle.lane.proofs.lookup.find.Statement.{statement}
 use Rattle.lane.proofs.lookup.find.Tie as tie
 
@@ -61,11 +64,16 @@ module _ (c : tie.After-look Inv-loop μ-loop) where
   in-reach : turn .loop .looked < length (cs turn)
   in-reach = omega (arith, counted turn)
 
+-- the answer, and that it rests on the records counted
+with-rest : (number : ℕ) (cs : List Carrier) (r : Lookup) → r ≡ lookup number cs → (r ≡ lookup number cs) × RestsOn number cs (r .looked)
+with-rest number cs r e = (e, subst (λ (r : Lookup). RestsOn number cs (r .looked)) (sym e) (looked-exact number cs))
+
 returns : tie.Need-returns Inv-loop μ-loop
 returns c =
     let at = turn (c .before) in
-    ends-found (number at) (cs at) (at .loop .looked) (at .loop .inv .1) (in-reach (c .before))
-    (sym (c .before .look .ensures .0) ∙ c .if1 .taken) _ (next (c .before))
+    with-rest (number at) (cs at) _
+    (ends-found (number at) (cs at) (at .loop .looked) (at .loop .inv .1) (in-reach (c .before))
+    (sym (c .before .look .ensures .0) ∙ c .if1 .taken) _ (next (c .before)))
 
 loop-less : tie.Need-loop-less Inv-loop μ-loop
 loop-less c = omega (arith, next (c .before), counted (turn (c .before)))
@@ -79,7 +87,10 @@ loop-again c =
     )
 
 returns-2 : tie.Need-returns-2 Inv-loop μ-loop
-returns-2 c = let at = c .before in ends-absent (number at) (cs at) (at .loop .looked) (at .loop .inv .1) (omega (arith, counted at, at .loop .inv .0))
+returns-2 c =
+    let at = c .before in
+    with-rest (number at) (cs at) _
+    (ends-absent (number at) (cs at) (at .loop .looked) (at .loop .inv .1) (omega (arith, counted at, at .loop .inv .0)))
 
 pub find-spec : {M : Type 1} → statement M
 find-spec = tie.close (tie.spec Inv-loop μ-loop present-requires loop-holds look-requires returns loop-less loop-again returns-2)

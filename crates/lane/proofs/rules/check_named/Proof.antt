@@ -61,13 +61,13 @@ refused-requires-3 c κs = search needs
 returns-3 : tie.Need-returns-3
 returns-3 c =
     let at = c .before .before .before in
-    let there = found-at _ _ _ (at .find .ensures) _ (c .before .found .given .1) in
+    let there = found-at _ _ _ (at .find .ensures .0) _ (c .before .found .given .1) in
     accepted-as _ _ _ (found-decides at ∙ rw (there .0) refl) (there .1)
 
 returns-4 : tie.Need-returns-4
 returns-4 c =
     let at = c .before .before .before in
-    let none = found-nowhere _ _ _ (at .find .ensures) (c .before .enum-told .given .1) in
+    let none = found-nowhere _ _ _ (at .find .ensures .0) (c .before .enum-told .given .1) in
     refused-as _ _ _ _ (found-decides at ∙ rw none refl) (λ e. omega arith) (c .refused3 .ensures)
 
 pub check-named-spec : {M : Type 1} → statement M

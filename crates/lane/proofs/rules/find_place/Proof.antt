@@ -57,7 +57,7 @@ found-decides c t e =
 returns-2 : tie.Need-returns-2
 returns-2 c =
     let found = c .before .before .before in
-    let there = found-at _ _ _ (found .find .ensures) _ (c .before .enum-told .given .1) in
+    let there = found-at _ _ _ (found .find .ensures .0) _ (c .before .enum-told .given .1) in
     refused-as _ _ _ _ (found-decides found _ (there .0)) (λ e. omega arith) (c .refused2 .ensures)
 
 enum-told-2 : tie.Need-enum-told-2
@@ -99,7 +99,7 @@ gap-decides : (c : tie.After-gap-refusal) → let a = c .before .before .before 
 gap-decides c =
     let new = c .before .before .before in
     let found = new .before .before in
-    found-decides found _ (found-nowhere _ _ _ (found .find .ensures) (new .enum-told2 .given .1))
+    found-decides found _ (found-nowhere _ _ _ (found .find .ensures .0) (new .enum-told2 .given .1))
     ∙ rw (← c .before .before .entry-place .ensures, ← c .before .row-in .ensures) (sym (c .gap-refusal .ensures))
 
 refused-requires-3 : tie.Need-refused-requires-3
