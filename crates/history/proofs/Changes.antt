@@ -1,19 +1,20 @@
--- A change of surface along a history: by the book it is accepted exactly where the lane is safe under the new row, and it serves until the next.
+-- A change of surface along a history: by the book it is accepted exactly where the lane is safe under the new row, and it serves until the next; no
+-- other word of the lane changes.
 use mathlib.Core.Path.{_≡_, refl, sym, ap, _∙_, subst}
 use mathlib.Core.Bool.{Bool, true, false}
-use mathlib.Core.List.{List, _∷_}
+use mathlib.Core.List.{List, [], _∷_, _++_}
 use Prim.Native.Nat.{ℕ, suc, _≤_, _<_}
-use lib.ListN.{length}
+use lib.ListN.{length, getD}
 use Rattle.lane.specs.Limits.{lastSurface}
 use Rattle.lane.specs.State.{State}
-use Rattle.lane.specs.Layout.{Words, stateOf}
+use Rattle.lane.specs.Layout.{Words, stateOf, withCode}
 use Rattle.lane.specs.Rules.{broken}
 use Rattle.lane.specs.Call.{Call, surface-call, Answer, callNo}
 use Rattle.lane.proofs.CallLaws.{answer-number}
-use Rattle.lane.proofs.SurfaceLaws.{surface-in-force, surface-answers, surface-standing}
+use Rattle.lane.proofs.SurfaceLaws.{other-words-stay, surface-in-force, surface-answers, surface-standing}
 use Rattle.history.specs.Book.{Book, begun}
 use Rattle.history.specs.Claims.{carrierAt, SafeOn}
-use Rattle.history.specs.History.{Event, laneAfter, Ran, Chain, chain-next, SurfaceExactly, SurfaceChanges}
+use Rattle.history.specs.History.{Event, laneAfter, Did, Ran, then, Chain, chain-next, SurfaceExactly, SurfaceChanges}
 use Rattle.history.proofs.Agreement.{empty-agrees}
 use Rattle.history.proofs.CycleRuns.{bookOf}
 use Rattle.history.proofs.History.{ran-gives, agrees-after}
@@ -57,3 +58,25 @@ chain-surface-changes none c = (chain-surface-exactly none c, chain-surface-serv
 -- in every list of calls from an empty lane
 pub surface-changes : (l : Words) → stateOf l .count ≡ 0 → (es : List Event) (d : Words) → Ran l es d → SurfaceChanges l es
 surface-changes l none es d r = chain-surface-changes none (ran-gives r)
+
+-- ---- its words, by the contract of `lane::surface` itself
+
+-- what the function called at a place of a list did
+did-at : (before : List Event) (e : Event) (later : List Event) {l d : Words} → Ran l (before ++ (e ∷ later)) d
+    → Did (e .call) (laneAfter l before) (e .answer) (e .left)
+did-at [] e later (then h r) = h
+did-at (x ∷ before) e later (then h r) = did-at before e later r
+
+code-put : (code : ℕ) (l : Words) (a : Answer) (m : Words) → Did (surface-call code) l a m → a .number ≡ 0 → m ≡ withCode code l
+code-put code l a m d z = d .says .2 .1 (sym (ap (λ (a : Answer). a .number) (d .says .1)) ∙ z) ∙ ap (withCode code) (d .before)
+
+-- "Positions, speeds and the cycle number don't move.": nor does any word but that of the code, the free ones too
+pub surface-words : (l : Words) (es : List Event) (d : Words) → Ran l es d
+    → (before : List Event) (change : Event) (later : List Event) (code i j : ℕ) → es ≡ before ++ (change ∷ later)
+    → change .call ≡ surface-call code → change .answer .number ≡ 0 → ¬ ((i ≡ 0) × (j ≡ 1))
+    → getD (getD (change .left) i []) j 0 ≡ getD (getD (laneAfter l before) i []) j 0
+surface-words l es d r before change later code i j is is-change accepted other =
+    let was = laneAfter l before in
+    let did = did-at before change later (subst (λ (es : List Event). Ran l es d) is r) in
+    let put = code-put code was (change .answer) (change .left) (subst (λ (x : Call). Did x was (change .answer) (change .left)) is-change did) accepted in
+    ap (λ (m : Words). getD (getD m i []) j 0) put ∙ other-words-stay was code i j other
