@@ -1,6 +1,6 @@
 -- `History` is the theorem over every list of calls, `Answered` that there is a history of each, `Consequences` what a reader may take from both,
--- `Rows` what becomes of loaded rows, `Changes` of a change of surface, `Beginnings` how a lane begins. Before them the road book against the lane's
--- laws: one call of each kind, a cycle, lane and book in agreement.
+-- `Rows` what becomes of loaded rows, `Changes` of a change of surface, `Openings` of an opening, `Beginnings` how a lane begins. Before them the road
+-- book against the lane's laws: one call of each kind, a cycle, lane and book in agreement.
 mod Bits
 mod Fronts
 mod Books
