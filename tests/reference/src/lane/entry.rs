@@ -1,4 +1,5 @@
-//! What an entry is judged by, once the lane is sound.
+//! What an entry is judged by, once the lane is sound. A call that is measured beside
+//! the library's has it inline, as if it were written there.
 
 use crate::carrier::{Carrier, Newcomer, LONGEST_CARRIER, OWN_RATES};
 use crate::headway::safe_behind;
@@ -8,6 +9,7 @@ use crate::stopping::Stopping;
 use crate::surface::Row;
 
 /// The checks of a newcomer's own values, in their order.
+#[inline(always)]
 pub(super) fn check_values(road: &Road, newcomer: Newcomer) -> Result<(), Refusal> {
     Refusal::SpeedAboveLimit.when(newcomer.speed > road.limit)?;
     Refusal::LengthTooLarge.when(newcomer.length > LONGEST_CARRIER)?;
@@ -16,6 +18,7 @@ pub(super) fn check_values(road: &Road, newcomer: Newcomer) -> Result<(), Refusa
 
 /// The place of a newcomer among the carriers present, if it is safe there and
 /// leaves the one behind it safe.
+#[inline(always)]
 pub(super) fn fit<S: Stopping>(
     row: &Row,
     present: &[Carrier],
