@@ -4,6 +4,7 @@
 mod common;
 
 use common::edges::each_call;
+use common::place_in;
 use lane_reference::random::{gapped_lane, question, short_lane, sound_lane, Random};
 use lane_reference::stopping::fast;
 use lane_reference::{
@@ -215,10 +216,7 @@ impl Otherwise {
     fn judge(&mut self, lane: &Lane, gap: Gap, newcomer: Newcomer, found: Option<Opening>) {
         let row = lane.tables.in_force.row(lane.road.surface);
         let row = row.expect("a question that is accepted");
-        let place = match gap {
-            Gap::AheadOfAll => 0,
-            Gap::Behind(number) => 1 + lane.look_up(number).place.expect("one present"),
-        };
+        let place = place_in(lane, gap);
         let asked = |place: usize| Asked {
             lane,
             row,

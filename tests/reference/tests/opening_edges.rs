@@ -4,6 +4,7 @@
 mod common;
 
 use common::edges::{add, each_call, number, Edges, Met, Outcome};
+use common::place_in;
 use lane_reference::headway::{foremost_behind, front_at_rest, rearmost_ahead, tail_at_rest};
 use lane_reference::random::{
     call, gapped_lane, short_lane, sound_lane, unsound_lane, Random, Weights,
@@ -15,6 +16,55 @@ use lane_reference::{
 
 /// Questions alone.
 const QUESTIONS: Weights = [0, 0, 0, 0, 0, 0, 0, 0, 0, 0, 0, 1];
+
+/// What histories and the entries in them have to meet more often than that.
+const IN_HISTORIES: [(&str, u32); 20] = [
+    ("ahead: none by one", 50),
+    ("ahead: one", 30),
+    ("between: none by one", 100),
+    ("between: one", 80),
+    ("between: two", 50),
+    ("behind: none by one", 25),
+    ("full: open between", 25),
+    ("full: open behind", 15),
+    ("front past the end: open", 20),
+    ("tail at the start", 40),
+    ("entered: at the lowest", 200),
+    ("entered: at the highest", 120),
+    ("entered: between", 80),
+    ("26: one below the lowest", 80),
+    ("25: one above the highest", 100),
+    ("5: one above the highest", 70),
+    ("22: at the lowest", 5),
+    ("22: at the highest", 5),
+    ("24: a number left behind", 10),
+    ("4: number 65,536", 40),
+];
+
+/// The same of sound lanes that are handed in.
+const ON_LANES: [(&str, u32); 21] = [
+    ("ahead: none by one", 1_000),
+    ("ahead: one", 600),
+    ("ahead: two", 300),
+    ("between: none by one", 1_200),
+    ("between: one", 600),
+    ("between: two", 250),
+    ("behind: none by one", 2_000),
+    ("behind: one", 500),
+    ("behind: two", 400),
+    ("lowest 1", 150),
+    ("highest 0", 500),
+    ("highest two before the end", 350),
+    ("front past the end: open", 400),
+    ("tail at the start", 2_500),
+    ("full: open ahead", 100),
+    ("full: open between", 300),
+    ("full: open behind", 400),
+    ("highest: by the stop, by one", 250),
+    ("lowest: by the stop, by one", 120),
+    ("open: weak behind", 1_200),
+    ("open: the newcomer's rate below b", 4_000),
+];
 
 /// A question that is accepted, on a lane that 21 passes.
 #[derive(Clone, Copy)]
@@ -28,10 +78,7 @@ struct Question<'a> {
 
 impl Question<'_> {
     fn of<'a>(lane: &'a Lane, row: Row, gap: Gap, newcomer: Newcomer) -> Question<'a> {
-        let place = match gap {
-            Gap::AheadOfAll => 0,
-            Gap::Behind(number) => 1 + lane.look_up(number).place.expect("it is accepted"),
-        };
+        let place = place_in(lane, gap);
         let ahead = place.checked_sub(1).map(|ahead| lane.carriers[ahead]);
         let behind = lane.present().get(place).copied();
         Question {
@@ -297,28 +344,7 @@ fn histories_crowd_the_edges_of_openings() {
             _ => None,
         };
     });
-    for (edge, least) in [
-        ("ahead: none by one", 50),
-        ("ahead: one", 30),
-        ("between: none by one", 100),
-        ("between: one", 80),
-        ("between: two", 50),
-        ("behind: none by one", 25),
-        ("full: open between", 25),
-        ("full: open behind", 15),
-        ("front past the end: open", 20),
-        ("tail at the start", 40),
-        ("entered: at the lowest", 200),
-        ("entered: at the highest", 120),
-        ("entered: between", 80),
-        ("26: one below the lowest", 80),
-        ("25: one above the highest", 100),
-        ("5: one above the highest", 70),
-        ("22: at the lowest", 5),
-        ("22: at the highest", 5),
-        ("24: a number left behind", 10),
-        ("4: number 65,536", 40),
-    ] {
+    for (edge, least) in IN_HISTORIES {
         assert!(met[edge] > least, "{edge}: {met:?}");
     }
 }
@@ -340,29 +366,7 @@ fn met_on_lanes(lanes: &[fn(&mut Random) -> Lane]) -> Met {
 fn lanes_handed_in_crowd_the_edges_of_openings() {
     let sound = met_on_lanes(&[sound_lane, gapped_lane, short_lane]);
     assert!(sound.values().all(|&times| times > 15), "{sound:?}");
-    for (edge, least) in [
-        ("ahead: none by one", 1_000),
-        ("ahead: one", 600),
-        ("ahead: two", 300),
-        ("between: none by one", 1_200),
-        ("between: one", 600),
-        ("between: two", 250),
-        ("behind: none by one", 2_000),
-        ("behind: one", 500),
-        ("behind: two", 400),
-        ("lowest 1", 150),
-        ("highest 0", 500),
-        ("highest two before the end", 350),
-        ("front past the end: open", 400),
-        ("tail at the start", 2_500),
-        ("full: open ahead", 100),
-        ("full: open between", 300),
-        ("full: open behind", 400),
-        ("highest: by the stop, by one", 250),
-        ("lowest: by the stop, by one", 120),
-        ("open: weak behind", 1_200),
-        ("open: the newcomer's rate below b", 4_000),
-    ] {
+    for (edge, least) in ON_LANES {
         assert!(sound[edge] > least, "{edge}: {sound:?}");
     }
     let unsound = met_on_lanes(&[unsound_lane]);

@@ -3,7 +3,7 @@
 
 mod common;
 
-use common::ask;
+use common::{ask, place_in};
 use lane_reference::random::{
     gapped_lane, question, short_lane, sound_lane, unsound_lane, Random, SHORT_END,
 };
@@ -66,14 +66,6 @@ fn with_stops_summed_it_is_the_same() {
     });
 }
 
-/// The place that one gets who enters in the gap.
-fn place(lane: &Lane, gap: Gap) -> usize {
-    match gap {
-        Gap::AheadOfAll => 0,
-        Gap::Behind(number) => 1 + lane.look_up(number).place.expect("a carrier named"),
-    }
-}
-
 /// Asserts that an entry at the position gets the place of the gap exactly if the
 /// position is within what was found; a full lane is skipped.
 fn as_entered(lane: &Lane, gap: Gap, newcomer: Newcomer, found: Option<Opening>, position: u64) {
@@ -86,7 +78,7 @@ fn as_entered(lane: &Lane, gap: Gap, newcomer: Newcomer, found: Option<Opening>,
     let within = found.is_some_and(|found| (found.lowest..=found.highest).contains(&position));
     assert_eq!(
         within,
-        entered == Ok(place(lane, gap)),
+        entered == Ok(place_in(lane, gap)),
         "{entry:?} in {gap:?} gives {entered:?}, {found:?} found, on {lane:?}"
     );
 }
@@ -142,10 +134,10 @@ fn on_long_lanes_entries_are_admitted_up_to_both_ends() {
 
 /// A lane without one of its carriers that is not next to the gap.
 fn without_another(lane: &Lane, gap: Gap) -> Option<Lane> {
-    let place = place(lane, gap);
-    let others = (0..lane.present().len()).filter(|&at| at != place && at + 1 != place);
-    let numbers = others.map(|at| lane.carriers[at].number);
-    numbers.last().map(|number| {
+    let place = place_in(lane, gap);
+    let mut others = (0..lane.present().len()).filter(|&at| at != place && at + 1 != place);
+    let number = others.next_back().map(|at| lane.carriers[at].number);
+    number.map(|number| {
         let mut fewer = FastLane(*lane);
         fewer.leave(number).expect("a carrier present");
         fewer.0

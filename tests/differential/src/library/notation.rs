@@ -26,43 +26,7 @@ pub fn print(case: &Case) -> String {
 
 fn print_call(call: &HostCall) -> String {
     match call {
-        HostCall::Plain(Call::Start { road, first }) => {
-            let figures = [road.surface, road.end, road.limit, *first];
-            format!("start{}\n", joined(&figures))
-        }
-        HostCall::Plain(Call::Enter(carrier)) => {
-            let figures = [
-                carrier.number,
-                carrier.position,
-                carrier.speed,
-                carrier.length,
-                carrier.rate,
-            ];
-            format!("enter{}\n", joined(&figures))
-        }
-        HostCall::Plain(Call::Leave { number }) => format!("leave {number}\n"),
-        HostCall::Plain(Call::Read { number }) => format!("read {number}\n"),
-        HostCall::Plain(Call::LaneText { room }) => format!("lane_text {room}\n"),
-        HostCall::Plain(Call::Surface { surface }) => format!("surface {surface}\n"),
-        HostCall::Plain(Call::Load { text }) => format!("load{}\n", joined(text)),
-        HostCall::Plain(Call::Cycle { .. } | Call::FindOpening { .. }) => {
-            unreachable!("a host's cycle or question is no plain call")
-        }
-        HostCall::FindOpening {
-            head,
-            number,
-            newcomer,
-        } => {
-            let Newcomer {
-                speed,
-                length,
-                rate,
-            } = *newcomer;
-            format!(
-                "find_opening{}\n",
-                joined(&[*head, *number, speed, length, rate])
-            )
-        }
+        HostCall::Plain(call) => print_plain(call),
         HostCall::Cycle {
             count,
             sorts,
@@ -72,6 +36,45 @@ fn print_call(call: &HostCall) -> String {
             joined(sorts),
             joined(values)
         ),
+        &HostCall::FindOpening {
+            head,
+            number,
+            newcomer,
+        } => {
+            let Newcomer {
+                speed,
+                length,
+                rate,
+            } = newcomer;
+            let figures = [head, number, speed, length, rate];
+            format!("find_opening{}\n", joined(&figures))
+        }
+    }
+}
+
+fn print_plain(call: &Call) -> String {
+    match call {
+        Call::Start { road, first } => {
+            let figures = [road.surface, road.end, road.limit, *first];
+            format!("start{}\n", joined(&figures))
+        }
+        Call::Enter(carrier) => {
+            let figures = [
+                carrier.number,
+                carrier.position,
+                carrier.speed,
+                carrier.length,
+                carrier.rate,
+            ];
+            format!("enter{}\n", joined(&figures))
+        }
+        Call::Leave { number } => format!("leave {number}\n"),
+        Call::Read { number } => format!("read {number}\n"),
+        Call::LaneText { room } => format!("lane_text {room}\n"),
+        Call::Surface { surface } => format!("surface {surface}\n"),
+        Call::Load { text } => format!("load{}\n", joined(text)),
+        Call::Cycle { .. } => unreachable!("a host's cycle is no plain call"),
+        Call::FindOpening { .. } => unreachable!("nor is a host's question"),
     }
 }
 

@@ -49,6 +49,18 @@ pub fn ask(gap: Gap, newcomer: Newcomer) -> Call {
     Call::FindOpening { gap, newcomer }
 }
 
+/// The place that one gets who enters in the gap, behind a carrier that is there.
+pub fn place_in(lane: &Lane, gap: Gap) -> usize {
+    let place_of = |number| {
+        let mut numbers = lane.present().iter().map(|carrier| carrier.number);
+        numbers.position(|there| there == number)
+    };
+    match gap {
+        Gap::AheadOfAll => 0,
+        Gap::Behind(number) => 1 + place_of(number).expect("a carrier that is there"),
+    }
+}
+
 /// A road from surface, end and limit.
 pub fn road(surface: u64, end: u64, limit: u64) -> Road {
     Road {
