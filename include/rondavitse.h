@@ -182,7 +182,7 @@ typedef struct rondavitse_entered {
 
 typedef struct rondavitse_opening {
     uint32_t no;
-    bool exists;      /* 0 or 1; where it is 0, there is no such position, and both are 0 */
+    bool exists;      /* 0 or 1; 0 where there is no such position, and after a refusal: both are then 0 */
     uint64_t lowest;
     uint64_t highest; /* the same as the lowest where there is one position alone */
 } rondavitse_opening;
@@ -240,9 +240,9 @@ uint32_t rondavitse_surface(rondavitse_lane *lane, uint64_t surface);
 rondavitse_entered rondavitse_enter(rondavitse_lane *lane, rondavitse_carrier carrier);
 
 /* Where a newcomer with these values could enter: the lowest and the highest position in the gap directly behind the carrier `number`, or, for
- * any `head` but 0, ahead of all, and `number` is then not looked at. From the lowest to the highest, and nowhere else, an entry would find its
- * place in that gap and be given none of 5, 25 and 26. 22 and 23 are not looked at: a full lane has openings too. That there is no such position
- * is no refusal: `exists` is then 0. An opening holds until another call changes the lane.
+ * any `head` but 0, ahead of all, and `number` is then not looked at. From the lowest to the highest, and nowhere else, an entry with a free
+ * number and a free place goes into that gap, given none of 5, 25 and 26. 22 and 23 are not looked at: a full lane has openings too. That there is
+ * no such position is no refusal: `exists` is then 0. An opening holds until another call changes the lane.
  * Checks: 21; for a carrier named 4, 24; then 6, 33, 35. */
 rondavitse_opening rondavitse_find_opening(const rondavitse_lane *lane, uint64_t head, uint64_t number, rondavitse_newcomer newcomer);
 

@@ -19,7 +19,7 @@ use Rattle.lane.proofs.OpeningLaws.{opening-in-order, gap-ahead-of-all, gap-beh
 use Rattle.history.specs.Book.{Book, begun}
 use Rattle.history.specs.Claims.{carrierAt}
 use Rattle.history.specs.History.{Event, bookOn, laneAfter, Ran, Chain, chain-next}
-use Rattle.history.specs.Openings.{GapAt, Between, FitsAt, numberAsked, OpeningsNumbered, OpeningsExact, OpeningsEnter, Openings}
+use Rattle.history.specs.Openings.{GapAt, Between, FitsAt, numberAsked, OpeningsNumbered, OpeningsRefused, OpeningsExact, OpeningsEnter, Openings}
 use Rattle.history.proofs.Agreement.{counted, empty-agrees}
 use Rattle.history.proofs.CycleRuns.{bookOf}
 use Rattle.history.proofs.History.{ran-gives, agrees-after}
@@ -55,13 +55,13 @@ Exact g n a b =
 
 exact : (g : Gap) (s : State) (n : Newcomer) → callNo (opening-call g n) s ≡ 0 → Exact g n (callAnswer (opening-call g n) s .span) (bookOf s)
 exact g s n z =
-    let ends = opening-ends s g n z in (
+    let ends = opening-ends s g n in (
       λ position h. (gapPlace g (s .carriers), is-gap g s n z, opening-numbers s g n position z .0 h),
       λ position place at fits.
           let there : FitsAt (bookOf s) n position (gapPlace g (s .carriers)) = subst (FitsAt (bookOf s) n position) (sym (gap-is g s n z place at)) fits in
           opening-numbers s g n position z .1 (there .0) (there .1) (there .2),
-      ends .0,
-      ends .1,
+      ends .0 z,
+      ends .1 z,
     )
 
 -- and of an entry
@@ -102,6 +102,14 @@ module _ {l d : Words} {es : List Event} (none : stateOf l .count ≡ 0) (c : Ch
       let number : ask .answer .number ≡ callNo x s = ap (λ (a : Answer). a .number) (answered (two .1) x is-ask) ∙ answer-number x s in
       number ∙ numbered-so g s n (λ z. passes (number ∙ z)) ∙ ap (numberAsked g n) (agrees-after (begun l) (empty-agrees l none) (two .0) .same)
 
+  chain-refused : OpeningsRefused l es
+  chain-refused before ask later g n is is-ask refused =
+      let x = opening-call g n in
+      let s = stateOf (laneAfter l before) in
+      let told = answered (parts before (subst (λ (es : List Event). Chain l es d) is c) .1) x is-ask in
+      let number : ask .answer .number ≡ callNo x s = ap (λ (a : Answer). a .number) told ∙ answer-number x s in
+      rw told (opening-ends s g n .2 (λ z. refused (number ∙ z)))
+
   chain-exact : OpeningsExact l es
   chain-exact before ask later g n is is-ask asked =
       let two = parts before (subst (λ (es : List Event). Chain l es d) is c) in
@@ -126,7 +134,7 @@ module _ {l d : Words} {es : List Event} (none : stateOf l .count ≡ 0) (c : Ch
       (rw (span, number, place) (enters g s k (counted (agree .good)) (accepted x s told asked)))
 
   pub chain-openings : Openings l es
-  chain-openings = (chain-numbered, chain-exact, chain-enter)
+  chain-openings = (chain-numbered, chain-refused, chain-exact, chain-enter)
 
 -- in every list of calls from an empty lane
 pub openings : (l : Words) → stateOf l .count ≡ 0 → (es : List Event) (d : Words) → Ran l es d → Openings l es

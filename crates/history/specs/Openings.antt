@@ -59,6 +59,14 @@ OpeningsNumbered l es =
     → ask .call ≡ opening-call g n → ¬ (ask .answer .number ≡ 21)
     → ask .answer .number ≡ numberAsked g n (bookOn (begun l) before)
 
+-- "A refusal holds its number", and no position
+abbrev pub OpeningsRefused : Words → List Event → Type 0
+OpeningsRefused l es =
+    (before : List Event) (ask : Event) (later : List Event) (g : Gap) (n : Newcomer)
+    → es ≡ before ++ (ask ∷ later)
+    → ask .call ≡ opening-call g n → ¬ (ask .answer .number ≡ 0)
+    → let a = ask .answer .span in (a .exists ≡ false) × (a .lowest ≡ 0) × (a .highest ≡ 0)
+
 -- an accepted opening answers exactly those positions, by the book, a full one too; where there is one the lowest is at most the highest, and where
 -- there is none both are 0
 abbrev pub OpeningsExact : Words → List Event → Type 0
@@ -90,4 +98,4 @@ OpeningsEnter l es =
 
 -- all of a list
 abbrev pub Openings : Words → List Event → Type 0
-Openings l es = OpeningsNumbered l es × OpeningsExact l es × OpeningsEnter l es
+Openings l es = OpeningsNumbered l es × OpeningsRefused l es × OpeningsExact l es × OpeningsEnter l es

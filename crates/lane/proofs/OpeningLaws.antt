@@ -26,7 +26,7 @@ use Rattle.lane.proofs.lists.Search.{place-passes}
 use Rattle.lane.proofs.lists.Tests.{neither, none-at}
 use Rattle.lane.proofs.checks.Spans.{between-passes, passes-between, span-ends}
 use Rattle.lane.proofs.checks.Soundness.{sound-holds}
-use Rattle.lane.proofs.calls.Answers.{Asks, accepted-answers, opening-tells, enter-tells}
+use Rattle.lane.proofs.calls.Answers.{Asks, refused-answers, accepted-answers, opening-tells, enter-tells}
 use Rattle.lane.proofs.calls.Openings.{opens-at, opens-there, opens-formula, opens-where, opens-says}
 
 -- a carrier's speed, length and own rate
@@ -144,14 +144,21 @@ gap-unnumbered : (r : Row) (place : ℕ) (c : Carrier) (cs : List Carrier) → g
 unfolding gapNo safeWith
 gap-unnumbered r place c cs = rw (unnumbered r (aheadOf place cs) c) refl
 
--- where there is one the lowest is at most the highest, and where there is none both are 0
-pub opening-ends : (s : State) (g : Gap) (n : Newcomer) → callNo (opening-call g n) s ≡ 0 →
-    let a = callAnswer (opening-call g n) s .span in
-    (a .exists ≡ true → a .lowest ≤ a .highest) × (a .exists ≡ false → (a .lowest ≡ 0) × (a .highest ≡ 0))
-opening-ends s g n e =
-    let h = told s g n e in
-    let f = opens-formula s (place s g n e) n (h .sound .carriers .safe) (h .within) in
-    rw (span-is s g n e) (span-ends (opens s (place s g n e) n) (f .0) (f .1) (omega (arith, f .2, h .sound .road .end-most)) (f .3))
+-- where there is one the lowest is at most the highest; where there is none, and after a refusal, both are 0
+pub opening-ends : (s : State) (g : Gap) (n : Newcomer) →
+    let x = opening-call g n in
+    let a = callAnswer x s .span in
+    (callNo x s ≡ 0 → a .exists ≡ true → a .lowest ≤ a .highest)
+    × (callNo x s ≡ 0 → a .exists ≡ false → (a .lowest ≡ 0) × (a .highest ≡ 0))
+    × (¬ (callNo x s ≡ 0) → (a .exists ≡ false) × (a .lowest ≡ 0) × (a .highest ≡ 0))
+opening-ends s g n = (λ e. ends e .0, λ e. ends e .1, λ h. rw (refused-answers (opening-call g n) s h) (refl, refl, refl))
+  where
+    ends : callNo (opening-call g n) s ≡ 0 → let a = callAnswer (opening-call g n) s .span in
+        (a .exists ≡ true → a .lowest ≤ a .highest) × (a .exists ≡ false → (a .lowest ≡ 0) × (a .highest ≡ 0))
+    ends e =
+        let h = told s g n e in
+        let f = opens-formula s (place s g n e) n (h .sound .carriers .safe) (h .within) in
+        rw (span-is s g n e) (span-ends (opens s (place s g n e) n) (f .0) (f .1) (omega (arith, f .2, h .sound .road .end-most)) (f .3))
 
 -- so an entry of these values, with a free number and a free place, is let in at the place asked for exactly where its position is between the two
 pub opening-entry : (s : State) (g : Gap) (c : Carrier) →
