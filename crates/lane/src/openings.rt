@@ -88,6 +88,7 @@ fn less(x: u64, y: u64) -> u64
     if y < x { x - y } else { 0 }
 }
 
+// The stopping distance: where a carrier at the lane's start comes to rest.
 fn stopping(rate: u32, speed: u64) -> u64
     requires { ⌜ (1 ≤ rate) × (speed < 4294967296) ⌝ }
     ensures { λ r. ⌜ r ≡ stoppingDistance rate speed ⌝ }
