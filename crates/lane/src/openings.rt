@@ -148,20 +148,16 @@ fn lowest_at(l: &Lane, row: Row, count: usize, place: usize, n: Newcomer) -> u64
     above_follower(row, layout::carrier_at(l, place), n)
 }
 
-// The position from which on there is none: the lane end where nobody is ahead.
+// The position from which on there is none: the lane end where nobody is ahead. Behind a carrier no front reaches it, since that one's tail is before it.
 fn end_at(l: &Lane, row: Row, end: u64, place: usize, n: Newcomer) -> u64
     requires { ⌜ (broken (stateOf (now l)) ≡ false) × ((row ≡ rowIn (stateOf (now l) .tables) (stateOf (now l) .road)) × (place ≤ length (stateOf (now l) .carriers))) ⌝ }
-    requires { ⌜ (n .speed ≤ 8192) × (1 ≤ n .rate) ⌝ }
+    requires { ⌜ («end» ≡ stateOf (now l) .road .end) × ((n .speed ≤ 8192) × (1 ≤ n .rate)) ⌝ }
     ensures { λ r. ⌜ ((p : ℕ) → not (leb «end» p) && safeWith row (aheadOf place (stateOf (now (l .entry)) .carriers)) (newcomerAt n p) ≡ ltb p r) × (r ≤ «end») ⌝ }
 {
     if place == 0 {
         return end;
     }
-    let safe = below_leader(row, layout::carrier_at(l, place - 1), n);
-    if safe < end {
-        return safe;
-    }
-    end
+    below_leader(row, layout::carrier_at(l, place - 1), n)
 }
 
 // The opening at a place, on a lane that breaks no rule.

@@ -1,10 +1,12 @@
 -- Where nobody is ahead the lane end alone bounds.
 use mathlib.Core.Path.{_≡_, refl, sym, ap, _∙_}
 use mathlib.Core.Bool.{not, _&&_}
+use mathlib.Core.Logic.{by-cases}
 use Prim.Native.Nat.{ℕ, _-_, _≤_, _<_, min}
+use native.Mathlib.Decide.{decLe}
 use native.Mathlib.Omega.{arith}
 use borrow.Author.Needs.{needs}
-use borrow.Author.Tests.{ne-eqb}
+use borrow.Author.Tests.{ne-eqb, lt-ltb}
 use lib.Dec.{leb, ltb}
 use lib.ListN.{length, getD}
 use Rattle.lane.specs.declared.Carrier.{Carrier}
@@ -12,6 +14,7 @@ use Rattle.lane.specs.Layout.{Words, stateOf}
 use Rattle.lane.specs.Safety.{leader, safeWith}
 use Rattle.lane.specs.Calls.{none, aheadOf}
 use Rattle.lane.specs.Opening.{newcomerAt}
+use Rattle.lane.proofs.EntryLaws.{safe-numbers}
 use Rattle.lane.proofs.checks.Soundness.{Sound, sound, row-sound, Fit, fit-at, fit-narrow}
 use Rattle.lane.proofs.checks.Surfaces.{row-brakes}
 use Rattle.lane.proofs.calls.Answers.{counted-most, record-at}
@@ -44,40 +47,54 @@ carrier-at-requires c κs = omega (arith, within c, counted-most (l c), known c 
 there : (c : tie.After-carrier-at) → let at = c .before in c .carrier-at .result ≡ getD (stateOf (l at) .carriers) (at .before .args .place - 1) none
 there c = c .carrier-at .ensures ∙ record-at (l (c .before)) _ (within (c .before))
 
+-- whose tail is before the end
+fits : (c : tie.After-carrier-at) → Fit (stateOf (l (c .before)) .road) (c .carrier-at .result)
+fits c =
+    let at = c .before in
+    rw (there c) (fit-at (stateOf (l at) .road) (stateOf (l at) .carriers) _ none (known at .carriers) (within at))
+
 below-leader-requires : tie.Need-below-leader-requires
 below-leader-requires c κs =
-    let at = c .before in
-    let h = known at in
-    let fits : Fit (stateOf (l at) .road) (c .carrier-at .result) = rw (there c) (fit-at (stateOf (l at) .road) (stateOf (l at) .carriers) _ none (h .carriers) (within at)) in
-    let narrow = fit-narrow _ _ (h .road) fits in
-    let own = at .before .pre .1 in
-    (rw (at .before .pre .0 .1 .0) (row-brakes _ (row-sound h)), (own .1, (own .0, (narrow .slow, narrow .short))))
+    let s = c .before .before in
+    let h = known (c .before) in
+    let narrow = fit-narrow _ _ (h .road) (fits c) in
+    let own = s .pre .1 .1 in
+    (rw (s .pre .0 .1 .0) (row-brakes _ (row-sound h)), (own .1, (own .0, (narrow .slow, narrow .short))))
 
--- 5 and the carrier ahead
-bounds : (c : tie.After-below-leader) → let s = c .before .before .before in (p : ℕ)
-    → not (leb (s .args .end) p) && safeWith (s .args .row) (aheadOf (s .args .place) (stateOf (s .args .l .now) .carriers)) (newcomerAt (s .args .n) p)
-    ≡ ltb p (min (s .args .end) (c .below-leader .result))
-bounds c p =
-    let at = c .before .before in
-    let a = at .before .args in
-    let ahead : safeWith (a .row) (leader (getD (stateOf (l at) .carriers) (a .place - 1) none)) (newcomerAt (a .n) p) ≡ ltb p (c .below-leader .result) =
-    ap (λ (k : Carrier). safeWith (a .row) (leader k) (newcomerAt (a .n) p)) (sym (there (c .before))) ∙ c .below-leader .ensures p in
-    rw (ne-eqb (a .place) 0 (at .if1 .left), ahead) (end-or-leader (a .end) (c .below-leader .result) p)
+-- so that who is safe behind it is
+before-end : (c : tie.After-below-leader) → c .below-leader .result ≤ c .before .before .before .args .end
+before-end c = by-cases (decLe bound end) (λ h. h) past
+  where
+    bound : ℕ
+    bound = c .below-leader .result
+
+    s : tie.Start
+    s = c .before .before .before
+
+    end : ℕ
+    end = s .args .end
+
+    past : ¬ (bound ≤ end) → bound ≤ end
+    past h =
+        let a = c .before .carrier-at .result in
+        let e = newcomerAt (s .args .n) end in
+        let safe = safe-numbers (s .args .row) a e (c .below-leader .ensures end ∙ lt-ltb end bound (omega arith)) in
+        omega (arith, safe .0, fits (c .before) .before-end, s .pre .1 .0)
 
 returns-2 : tie.Need-returns-2
-returns-2 c =
-    let k = c .before in
-    let end = k .before .before .before .args .end in
-    let least : min end (k .below-leader .result) ≡ k .below-leader .result = omega (arith, c .if2 .taken) in
-    (λ p. bounds k p ∙ ap (ltb p) least, omega (arith, c .if2 .taken))
+returns-2 c = (λ p. bounds p, before-end c)
+  where
+    at : tie.Else1
+    at = c .before .before
 
-returns-3 : tie.Need-returns-3
-returns-3 c =
-    let k = c .before in
-    let end = k .before .before .before .args .end in
-    let least : min end (k .below-leader .result) ≡ end = omega (arith, c .if2 .left) in
-    (λ p. bounds k p ∙ ap (ltb p) least, omega arith)
+    bounds : (p : ℕ) → let a = at .before .args in
+        not (leb (a .end) p) && safeWith (a .row) (aheadOf (a .place) (stateOf (l at) .carriers)) (newcomerAt (a .n) p) ≡ ltb p (c .below-leader .result)
+    bounds p =
+        let a = at .before .args in
+        let ahead : safeWith (a .row) (leader (getD (stateOf (l at) .carriers) (a .place - 1) none)) (newcomerAt (a .n) p) ≡ ltb p (c .below-leader .result) =
+        ap (λ (k : Carrier). safeWith (a .row) (leader k) (newcomerAt (a .n) p)) (sym (there (c .before))) ∙ c .below-leader .ensures p in
+        let least : min (a .end) (c .below-leader .result) ≡ c .below-leader .result = omega (arith, before-end c) in
+        rw (ne-eqb (a .place) 0 (at .if1 .left), ahead) (end-or-leader (a .end) (c .below-leader .result) p ∙ ap (ltb p) least)
 
 pub end-at-spec : {M : Type 1} → statement M
-end-at-spec =
-    tie.close (tie.spec returns sub-carrier-at carrier-at-requires below-leader-requires returns-2 returns-3)
+end-at-spec = tie.close (tie.spec returns sub-carrier-at carrier-at-requires below-leader-requires returns-2)

@@ -47,10 +47,14 @@ lowest-at-requires c κs =
     ap (λ (f : Figures). f .count) (at .figures-of .ensures .0) ∙ sym (length-take-le (stateOf (l s) .count) (recordsIn (l s)) (omega (arith, known s .count, at .figures-of .ensures .1))) in
     ((s .pre .0, (row-is c, counted)), (omega (arith, values s .0, known s .road .limit-most), values s .1))
 
+end-is : (c : tie.After-figures-of) → c .figures-of .result .road .end ≡ stateOf (l (c .before)) .road .end
+end-is c = ap (λ (f : Figures). f .road .end) (c .figures-of .ensures .0)
+
 end-at-requires : tie.Need-end-at-requires
 end-at-requires c κs =
-    let s = c .before .before .before .before in
-    ((s .pre .0, (row-is (c .before), s .pre .1 .0)), (omega (arith, values s .0, known s .road .limit-most), values s .2))
+    let at = c .before .before .before in
+    let s = at .before in
+    ((s .pre .0, (row-is (c .before), s .pre .1 .0)), (end-is at, (omega (arith, values s .0, known s .road .limit-most), values s .2)))
 
 span-requires : tie.Need-span-requires
 span-requires c κs = search needs
@@ -59,15 +63,14 @@ returns : tie.Need-returns
 returns c =
     let ended = c .before in
     let at = ended .before .before in
-    let f = at .before .before .figures-of in
+    let end = end-is (at .before .before) in
     let s = at .before .before .before in
     let h = known s in
-    let end-is : f .result .road .end ≡ stateOf (l s) .road .end = ap (λ (g : Figures). g .road .end) (f .ensures .0) in
     c .span .ensures (opens (stateOf (l s)) (s .args .place) (s .args .n))
     (opens-between (stateOf (l s)) (s .args .place) (s .args .n) (h .carriers .safe) (s .pre .1 .0) _ _
     (λ p. rw (row-is at) at (ended .before .lowest-at .ensures p))
-    (λ p. rw (row-is at, end-is) at (ended .end-at .ensures .0 p)))
-    (omega (arith, ended .end-at .ensures .1, end-is, h .road .end-most))
+    (λ p. rw (row-is at, end) at (ended .end-at .ensures .0 p)))
+    (omega (arith, ended .end-at .ensures .1, end, h .road .end-most))
 
 pub opening-at-spec : {M : Type 1} → statement M
 opening-at-spec =
