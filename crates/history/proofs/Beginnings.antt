@@ -14,10 +14,10 @@ use Rattle.lane.specs.State.{State}
 use Rattle.lane.specs.Layout.{Words, stateOf}
 use Rattle.lane.specs.Rules.{broken}
 use Rattle.lane.specs.Table.{tableText, tableIn, badTable, rowsLoaded}
-use Rattle.lane.specs.Call.{Call, start-call, load-call, enter-call, Answer, callNo, callState}
+use Rattle.lane.specs.Call.{Call, start-call, load-call, enter-call, callNo, callState}
 use Rattle.lane.proofs.Newcomers.{Newcomer}
 use Rattle.lane.proofs.EntryLaws.{entry-refused, alone-enters}
-use Rattle.lane.proofs.CallLaws.{refused-changes-nothing, answer-number, Outcome, kept, never-started, accepted-leaves, kept-started, empty-starts, idle-loads, load-finds-nobody, unsound-next-stuck}
+use Rattle.lane.proofs.CallLaws.{refused-changes-nothing, Outcome, kept, never-started, accepted-leaves, kept-started, empty-starts, idle-loads, load-finds-nobody, unsound-next-stuck}
 use Rattle.lane.proofs.TableLaws.{text-brings, brought-text}
 use Rattle.history.specs.Book.{Book, begun}
 use Rattle.history.specs.Claims.{Kind, begins, loads, surfaces, runs, other, kindOf}
@@ -25,7 +25,8 @@ use Rattle.history.specs.History.{Event, bookOn, Ran, Chain, chain-end, 
 use Rattle.history.specs.Beginnings.{isAccepted, FirstStart, LoadsAnswered, LoadedTextServes, StuckForGood, EntersAlone, Beginnings}
 use Rattle.history.proofs.Agreement.{Agree, counted, empty-agrees}
 use Rattle.history.proofs.History.{ran-gives, agrees-after}
-use Rattle.history.proofs.Rows.{Ground, groundOf, groundAfter, accepted-ground, parts, chain-loaded-rows-serve}
+use Rattle.history.proofs.Rows.{Ground, groundOf, groundAfter, accepted-ground, chain-loaded-rows-serve}
+use Rattle.history.proofs.Events.{split, agree-at, number-at}
 
 -- ---- of one state
 
@@ -88,24 +89,10 @@ stuck-after {l} b a (chain-next {e = e} g w r) h =
     (subst Stuck (sym (g .state)) (still-stuck (e .call) (stateOf l) (counted (a .good)) h))
 
 module _ {l d : Words} {es : List Event} (none : stateOf l .count ≡ 0) (c : Chain l es d) where
-  -- before an event of the list: lane and book agree, and its number is the call's
-  module _ (before : List Event) (e : Event) (later : List Event) (is : es ≡ before ++ (e ∷ later)) where
-    split : Chain l before (laneAfter l before) × Chain (laneAfter l before) (e ∷ later) d
-    split = parts before (subst (λ (es : List Event). Chain l es d) is c)
-
-    agree-at : Agree (stateOf (laneAfter l before)) (bookOn (begun l) before)
-    agree-at = agrees-after (begun l) (empty-agrees l none) (split .0)
-
-    number-at : (x : Call) → e .call ≡ x → e .answer .number ≡ callNo x (stateOf (laneAfter l before))
-    number-at x same = first (split .1) ∙ ap (λ (y : Call). callNo y (stateOf (laneAfter l before))) same
-      where
-        first : {k : Words} → Chain k (e ∷ later) d → e .answer .number ≡ callNo (e .call) (stateOf k)
-        first {k} (chain-next g w r) = ap (λ (a : Answer). a .number) (g .answer) ∙ answer-number (e .call) (stateOf k)
-
   chain-first-start : FirstStart l es
   chain-first-start before start later road first is from refused is-start =
-      number-at before start later is (start-call road first) is-start
-      ∙ ap (λ (m : Words). callNo (start-call road first) (stateOf m)) (unmoved (split before start later is .0) refused ∙ from)
+      number-at c before start later is (start-call road first) is-start
+      ∙ ap (λ (m : Words). callNo (start-call road first) (stateOf m)) (unmoved (split c before start later is .0) refused ∙ from)
       ∙ empty-starts road first
 
   chain-loads : LoadsAnswered l es
@@ -115,7 +102,7 @@ module _ {l d : Words} {es : List Event} (none : stateOf l .count ≡ 0) (c : Ch
       s = stateOf (laneAfter l before)
 
       number : load .answer .number ≡ callNo (load-call text) s
-      number = number-at before load later is (load-call text) is-load
+      number = number-at c before load later is (load-call text) is-load
 
       idle : s .started ≡ false → load .answer .number ≡ cond (badTable (tableIn text)) 31 0
       idle e = number ∙ idle-loads s text e
@@ -129,27 +116,27 @@ module _ {l d : Words} {es : List Event} (none : stateOf l .count ≡ 0) (c : Ch
 
       of-started : s .started ≡ true → load .answer .number ≡ 0 → bookOn (begun l) before .carriers ≡ []
       of-started e z =
-          let a = agree-at before load later is in
+          let a = agree-at c before load later is none in
           let nobody = load-finds-nobody s text e (sym number ∙ z) in
           sym (ap (λ (b : Book). b .carriers) (a .same)) ∙ no-carriers (s .carriers) (sym (counted (a .good)) ∙ nobody)
 
   chain-loaded-text-serves : LoadedTextServes es
   chain-loaded-text-serves before load between start serving later text road first is is-load loaded no-load is-start started no-start =
       let serves = chain-loaded-rows-serve c before load between start serving later text road first is is-load loaded no-load is-start started no-start in
-      let number = number-at before load _ is (load-call text) is-load in (
+      let number = number-at c before load _ is (load-call text) is-load in (
         brought-text (stateOf (laneAfter l before)) text (sym number ∙ loaded) ∙ ap tableText (sym serves),
         λ rs eight sound made. serves ∙ ap (λ (t : List ℕ). rowsLoaded (tableIn t)) made ∙ text-brings rs eight sound .1,
       )
 
   chain-stuck : StuckForGood l es
   chain-stuck started rows before e later is asked =
-      let stuck = stuck-after (begun l) (empty-agrees l none) (split before e later is .0) (record { started = started; rows = rows }) in
-      number-at before e later is (e .call) refl ∙ stuck-number (kindOf (e .call)) _ stuck asked
+      let stuck = stuck-after (begun l) (empty-agrees l none) (split c before e later is .0) (record { started = started; rows = rows }) in
+      number-at c before e later is (e .call) refl ∙ stuck-number (kindOf (e .call)) _ stuck asked
 
   chain-alone : EntersAlone l es
   chain-alone before enter later k is is-enter passes nobody least most front slow short rate-least rate-most =
-      let a = agree-at before enter later is in
-      let number = number-at before enter later is (enter-call k) is-enter in
+      let a = agree-at c before enter later is none in
+      let number = number-at c before enter later is (enter-call k) is-enter in
       let own : Newcomer (bookOn (begun l) before .road) k =
       record { number-least = least; number-most = most; front-before-end = front; slow = slow; short = short; rate-least = rate-least; rate-most = rate-most } in
       number

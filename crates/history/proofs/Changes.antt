@@ -10,15 +10,14 @@ use Rattle.lane.specs.State.{State}
 use Rattle.lane.specs.Layout.{Words, stateOf, withCode}
 use Rattle.lane.specs.Rules.{broken}
 use Rattle.lane.specs.Call.{Call, surface-call, Answer, callNo}
-use Rattle.lane.proofs.CallLaws.{answer-number}
 use Rattle.lane.proofs.SurfaceLaws.{other-words-stay, surface-in-force, surface-answers, surface-standing}
-use Rattle.history.specs.Book.{Book, begun}
+use Rattle.history.specs.Book.{Book}
 use Rattle.history.specs.Claims.{carrierAt, SafeOn}
-use Rattle.history.specs.History.{Event, laneAfter, Did, Ran, then, Chain, chain-next, SurfaceExactly, SurfaceChanges}
-use Rattle.history.proofs.Agreement.{empty-agrees}
+use Rattle.history.specs.History.{Event, laneAfter, Did, Ran, then, Chain, SurfaceExactly, SurfaceChanges}
 use Rattle.history.proofs.CycleRuns.{bookOf}
-use Rattle.history.proofs.History.{ran-gives, agrees-after}
-use Rattle.history.proofs.Rows.{parts, chain-surface-serves}
+use Rattle.history.proofs.History.{ran-gives}
+use Rattle.history.proofs.Rows.{chain-surface-serves}
+use Rattle.history.proofs.Events.{agree-at, number-at}
 
 -- what is said of one change that answers so
 abbrev Exactly : Book → (code number : ℕ) → Type 0
@@ -39,18 +38,11 @@ exactly s code passes = by-rules (broken s) refl
         (told .1 e, told .2 e, told .3 e, λ same. ap (λ (n : ℕ). callNo (surface-call n) s) same ∙ surface-in-force s e, surface-standing s code e)
 
 chain-surface-exactly : {l d : Words} {es : List Event} → stateOf l .count ≡ 0 → Chain l es d → SurfaceExactly l es
-chain-surface-exactly {l} {d} none c before change later code is is-change passes =
-    let two = parts before (subst (λ (es : List Event). Chain l es d) is c) in
-    subst (λ (b : Book). Exactly b code (change .answer .number)) (agrees-after (begun l) (empty-agrees l none) (two .0) .same) (at-head (two .1))
-  where
-    s : State
-    s = stateOf (laneAfter l before)
-
-    at-head : {rest : List Event} → Chain (laneAfter l before) (change ∷ rest) d → Exactly (bookOf s) code (change .answer .number)
-    at-head (chain-next g w r) =
-        let number : change .answer .number ≡ callNo (surface-call code) s =
-        ap (λ (a : Answer). a .number) (g .answer) ∙ answer-number (change .call) s ∙ ap (λ (x : Call). callNo x s) is-change in
-        subst (Exactly (bookOf s) code) (sym number) (exactly s code (λ z. passes (number ∙ z)))
+chain-surface-exactly {l} none c before change later code is is-change passes =
+    let s = stateOf (laneAfter l before) in
+    let number = number-at c before change later is (surface-call code) is-change in
+    subst (λ (b : Book). Exactly b code (change .answer .number)) (agree-at c before change later is none .same)
+    (subst (Exactly (bookOf s) code) (sym number) (exactly s code (λ z. passes (number ∙ z))))
 
 pub chain-surface-changes : {l d : Words} {es : List Event} → stateOf l .count ≡ 0 → Chain l es d → SurfaceChanges l es
 chain-surface-changes none c = (chain-surface-exactly none c, chain-surface-serves c)

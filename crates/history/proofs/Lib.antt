@@ -10,6 +10,7 @@ mod Lasting
 pub mod History
 pub mod Answered
 pub mod Rows
+mod Events
 pub mod Changes
 pub mod Openings
 pub mod Beginnings

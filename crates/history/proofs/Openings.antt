@@ -13,17 +13,17 @@ use Rattle.lane.specs.State.{State}
 use Rattle.lane.specs.Layout.{Words, stateOf}
 use Rattle.lane.specs.Rules.{broken}
 use Rattle.lane.specs.Opening.{gapPlace, Span}
-use Rattle.lane.specs.Call.{Call, enter-call, opening-call, Answer, callNo, callAnswer}
+use Rattle.lane.specs.Call.{enter-call, opening-call, Answer, callNo, callAnswer}
 use Rattle.lane.proofs.CallLaws.{answer-number}
 use Rattle.lane.proofs.OpeningLaws.{opening-in-order, gap-ahead-of-all, gap-behind, gap-there, opening-numbers, opening-ends, opening-entry}
-use Rattle.history.specs.Book.{Book, begun}
+use Rattle.history.specs.Book.{Book}
 use Rattle.history.specs.Claims.{carrierAt}
-use Rattle.history.specs.History.{Event, bookOn, laneAfter, Ran, Chain, chain-next}
+use Rattle.history.specs.History.{Event, laneAfter, Ran, Chain}
 use Rattle.history.specs.Openings.{GapAt, Between, FitsAt, numberAsked, OpeningsNumbered, OpeningsRefused, OpeningsExact, OpeningsEnter, Openings}
-use Rattle.history.proofs.Agreement.{counted, empty-agrees}
+use Rattle.history.proofs.Agreement.{counted}
 use Rattle.history.proofs.CycleRuns.{bookOf}
-use Rattle.history.proofs.History.{ran-gives, agrees-after}
-use Rattle.history.proofs.Rows.{parts}
+use Rattle.history.proofs.History.{ran-gives}
+use Rattle.history.proofs.Events.{agree-at, answer-at, number-at, after}
 
 -- ---- of one state
 
@@ -83,55 +83,39 @@ enters g s c count-is z least most new room =
 
 -- ---- along a list
 
--- what an event at the head answers is the call's
-answered : {e : Event} {rest : List Event} {l d : Words} → Chain l (e ∷ rest) d → (x : Call) → e .call ≡ x → e .answer ≡ callAnswer x (stateOf l)
-answered {l = l} (chain-next g w r) x is = g .answer ∙ ap (λ (y : Call). callAnswer y (stateOf l)) is
-
-accepted : {a : Answer} (x : Call) (s : State) → a ≡ callAnswer x s → a .number ≡ 0 → callNo x s ≡ 0
-accepted x s is z = sym (ap (λ (a : Answer). a .number) is ∙ answer-number x s) ∙ z
-
-behind-first : {e : Event} {rest : List Event} {l d : Words} → Chain l (e ∷ rest) d → Chain (e .left) rest d
-behind-first (chain-next g w r) = r
-
 module _ {l d : Words} {es : List Event} (none : stateOf l .count ≡ 0) (c : Chain l es d) where
   chain-numbered : OpeningsNumbered l es
   chain-numbered before ask later g n is is-ask passes =
-      let two = parts before (subst (λ (es : List Event). Chain l es d) is c) in
-      let x = opening-call g n in
-      let s = stateOf (laneAfter l before) in
-      let number : ask .answer .number ≡ callNo x s = ap (λ (a : Answer). a .number) (answered (two .1) x is-ask) ∙ answer-number x s in
-      number ∙ numbered-so g s n (λ z. passes (number ∙ z)) ∙ ap (numberAsked g n) (agrees-after (begun l) (empty-agrees l none) (two .0) .same)
+      let number = number-at c before ask later is (opening-call g n) is-ask in
+      number ∙ numbered-so g (stateOf (laneAfter l before)) n (λ z. passes (number ∙ z)) ∙ ap (numberAsked g n) (agree-at c before ask later is none .same)
 
   chain-refused : OpeningsRefused l es
   chain-refused before ask later g n is is-ask refused =
       let x = opening-call g n in
-      let s = stateOf (laneAfter l before) in
-      let told = answered (parts before (subst (λ (es : List Event). Chain l es d) is c) .1) x is-ask in
-      let number : ask .answer .number ≡ callNo x s = ap (λ (a : Answer). a .number) told ∙ answer-number x s in
-      rw told (opening-ends s g n .2 (λ z. refused (number ∙ z)))
+      rw (answer-at c before ask later is x is-ask)
+      (opening-ends (stateOf (laneAfter l before)) g n .2 (λ z. refused (number-at c before ask later is x is-ask ∙ z)))
 
   chain-exact : OpeningsExact l es
   chain-exact before ask later g n is is-ask asked =
-      let two = parts before (subst (λ (es : List Event). Chain l es d) is c) in
       let x = opening-call g n in
       let s = stateOf (laneAfter l before) in
-      let told = answered (two .1) x is-ask in
-      subst (Exact g n (ask .answer .span)) (agrees-after (begun l) (empty-agrees l none) (two .0) .same)
-      (subst (λ (a : Answer). Exact g n (a .span) (bookOf s)) (sym told) (exact g s n (accepted x s told asked)))
+      let accepted = sym (number-at c before ask later is x is-ask) ∙ asked in
+      subst (Exact g n (ask .answer .span)) (agree-at c before ask later is none .same)
+      (subst (λ (a : Answer). Exact g n (a .span) (bookOf s)) (sym (answer-at c before ask later is x is-ask)) (exact g s n accepted))
 
   chain-enter : OpeningsEnter l es
   chain-enter before ask between enter later g k is is-ask asked same is-enter =
-      let two = parts before (subst (λ (es : List Event). Chain l es d) is c) in
       let s = stateOf (laneAfter l before) in
+      let rest = between ++ (enter ∷ later) in
       let x = opening-call g (record { speed = k .speed; length = k .length; rate = k .rate }) in
-      let told = answered (two .1) x is-ask in
-      let then = answered (parts between (behind-first (two .1)) .1) (enter-call k) is-enter ∙ ap (callAnswer (enter-call k)) same in
-      let agree = agrees-after (begun l) (empty-agrees l none) (two .0) in
+      let then = answer-at (after c before ask rest is) between enter later refl (enter-call k) is-enter ∙ ap (callAnswer (enter-call k)) same in
+      let agree = agree-at c before ask rest is none in
       let number : enter .answer .number ≡ callNo (enter-call k) s = ap (λ (a : Answer). a .number) then ∙ answer-number (enter-call k) s in
       let place : enter .answer .place ≡ callAnswer (enter-call k) s .place = ap (λ (a : Answer). a .place) then in
-      let span : ask .answer .span ≡ callAnswer x s .span = ap (λ (a : Answer). a .span) told in
+      let span : ask .answer .span ≡ callAnswer x s .span = ap (λ (a : Answer). a .span) (answer-at c before ask rest is x is-ask) in
+      let accepted = sym (number-at c before ask rest is x is-ask) ∙ asked in
       subst (λ (b : Book). Enters g k (ask .answer .span) b (enter .answer .number) (enter .answer .place)) (agree .same)
-      (rw (span, number, place) (enters g s k (counted (agree .good)) (accepted x s told asked)))
+      (rw (span, number, place) (enters g s k (counted (agree .good)) accepted))
 
   pub chain-openings : Openings l es
   chain-openings = (chain-numbered, chain-refused, chain-exact, chain-enter)

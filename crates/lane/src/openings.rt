@@ -37,7 +37,7 @@ fn at_start(n: Newcomer) -> Carrier
     }
 }
 
-// The gap that is asked for: its number, and the place of who enters there.
+// The checks of the gap that is asked for, 21, 4 and 24, and the place of who enters there.
 fn check_gap(l: &Lane, gap: Gap) -> Checked
     ensures { λ r. ⌜ (r .no ≡ gapNamedNo (stateOf (now (l .entry))) gap) × (r .place ≡ ifAccepted (gapNamedNo (stateOf (now (l .entry))) gap) (gapPlace gap (stateOf (now (l .entry)) .carriers)) 0) ⌝ }
 {
@@ -148,7 +148,8 @@ fn lowest_at(l: &Lane, row: Row, count: usize, place: usize, n: Newcomer) -> u64
     above_follower(row, layout::carrier_at(l, place), n)
 }
 
-// The position from which on there is none: the lane end where nobody is ahead. Behind a carrier no front reaches it, since that one's tail is before it.
+// The position from which on there is none: the lane end where nobody is ahead. Behind a carrier the end is
+// not looked at: that one's tail is before it.
 fn end_at(l: &Lane, row: Row, end: u64, place: usize, n: Newcomer) -> u64
     requires { ⌜ (broken (stateOf (now l)) ≡ false) × ((row ≡ rowIn (stateOf (now l) .tables) (stateOf (now l) .road)) × (place ≤ length (stateOf (now l) .carriers))) ⌝ }
     requires { ⌜ («end» ≡ stateOf (now l) .road .end) × ((n .speed ≤ 8192) × (1 ≤ n .rate)) ⌝ }

@@ -27,7 +27,7 @@ use Rattle.lane.specs.Call.{Call, Answer, callNo, acceptedState, lentTo,
 use Rattle.lane.proofs.lists.Passed.{passed}
 use Rattle.lane.proofs.lists.Search.{place-any, place-le}
 use Rattle.lane.proofs.Newcomers.{Newcomer as InRange, newcomer-is}
-use Rattle.lane.proofs.checks.Soundness.{newcomer-lawful, newcomer-before-end, Sound, sound}
+use Rattle.lane.proofs.checks.Soundness.{Fit, fit-at, newcomer-lawful, newcomer-before-end, Sound, sound}
 
 -- a value of a call that is refused, and of one that is accepted
 refused-has : {A : Type 0} (n : ℕ) (x y : A) → ¬ (n ≡ 0) → ifAccepted n x y ≡ y
@@ -125,6 +125,10 @@ counted-most l = omega (arith, length-take (stateOf l .count) (recordsIn l))
 -- and its carriers are the first of its records
 pub record-at : (l : Words) (i : ℕ) → i < length (stateOf l .carriers) → getD (recordsIn l) i none ≡ getD (stateOf l .carriers) i none
 record-at l i h = sym (getD-take (stateOf l .count) (recordsIn l) i none (omega (arith, counted-most l)))
+
+-- each of which is fit, where it breaks no rule
+pub fit-there : (l : Words) → Sound (stateOf l) → (i : ℕ) → i < length (stateOf l .carriers) → Fit (stateOf l .road) (getD (recordsIn l) i none)
+fit-there l h i p = rw (record-at l i p) (fit-at (stateOf l .road) (stateOf l .carriers) i none (h .carriers) p)
 
 -- an enter
 pub record Enters (s : State) (c : Carrier) : Type 0 where

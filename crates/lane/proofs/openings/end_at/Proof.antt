@@ -15,9 +15,9 @@ use Rattle.lane.specs.Safety.{leader, safeWith}
 use Rattle.lane.specs.Calls.{none, aheadOf}
 use Rattle.lane.specs.Opening.{newcomerAt}
 use Rattle.lane.proofs.EntryLaws.{safe-numbers}
-use Rattle.lane.proofs.checks.Soundness.{Sound, sound, row-sound, Fit, fit-at, fit-narrow}
+use Rattle.lane.proofs.checks.Soundness.{Sound, sound, row-sound, Fit, fit-narrow}
 use Rattle.lane.proofs.checks.Surfaces.{row-brakes}
-use Rattle.lane.proofs.calls.Answers.{counted-most, record-at}
+use Rattle.lane.proofs.calls.Answers.{counted-most, record-at, fit-there}
 use Rattle.lane.proofs.calls.Openings.{end-alone, end-or-leader}
 use Rattle.lane.proofs.openings.end_at.Statement.{statement}
 use Rattle.lane.proofs.openings.end_at.Tie as tie
@@ -49,9 +49,7 @@ there c = c .carrier-at .ensures ∙ record-at (l (c .before)) _ (within (c .bef
 
 -- whose tail is before the end
 fits : (c : tie.After-carrier-at) → Fit (stateOf (l (c .before)) .road) (c .carrier-at .result)
-fits c =
-    let at = c .before in
-    rw (there c) (fit-at (stateOf (l at) .road) (stateOf (l at) .carriers) _ none (known at .carriers) (within at))
+fits c = let at = c .before in rw (← c .carrier-at .ensures) at (fit-there (l at) (known at) _ (within at))
 
 below-leader-requires : tie.Need-below-leader-requires
 below-leader-requires c κs =

@@ -10,9 +10,9 @@ use Rattle.lane.specs.Layout.{Words, stateOf}
 use Rattle.lane.specs.Safety.{leader, safeWith}
 use Rattle.lane.specs.Calls.{none}
 use Rattle.lane.specs.Opening.{newcomerAt}
-use Rattle.lane.proofs.checks.Soundness.{Sound, sound, row-sound, Fit, fit-at, fit-narrow}
+use Rattle.lane.proofs.checks.Soundness.{Sound, sound, row-sound, fit-narrow}
 use Rattle.lane.proofs.checks.Surfaces.{row-brakes}
-use Rattle.lane.proofs.calls.Answers.{counted-most, record-at}
+use Rattle.lane.proofs.calls.Answers.{counted-most, record-at, fit-there}
 use Rattle.lane.proofs.openings.lowest_at.Statement.{statement}
 use Rattle.lane.proofs.openings.lowest_at.Tie as tie
 
@@ -43,7 +43,7 @@ above-follower-requires : tie.Need-above-follower-requires
 above-follower-requires c κs =
     let at = c .before in
     let h = known at in
-    let fits : Fit (stateOf (l at) .road) (c .carrier-at .result) = rw (there c) (fit-at (stateOf (l at) .road) (stateOf (l at) .carriers) _ none (h .carriers) (within at)) in
+    let fits = rw (← c .carrier-at .ensures) at (fit-there (l at) h _ (within at)) in
     let narrow = fit-narrow _ _ (h .road) fits in
     let own = at .before .pre .1 in
     (rw (at .before .pre .0 .1 .0) (row-brakes _ (row-sound h)), (fits .rate-least, (narrow .slow, (own .0, (own .1, omega (arith, narrow .position))))))
