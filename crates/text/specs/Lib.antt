@@ -2,3 +2,4 @@ pub mod Ascii
 pub mod Numbers
 pub mod Lines
 pub mod Fields
+pub mod Groups
