@@ -1,6 +1,6 @@
 -- The laws of groups of numbers, all that the crates above use of how `specs/Groups` reads: what was written is read again, whatever is read is
 -- what would be written, and what functions tell of it, field after field and group after group.
-use mathlib.Core.Path.{_≡_, refl, sym, ap, _∙_}
+use mathlib.Core.Path.{_≡_, refl, sym, ap, subst, _∙_}
 use mathlib.Core.Bool.{Bool, true, false, not, _&&_, cond}
 use mathlib.Core.List.{List, [], _∷_, _++_, append-assoc, append-nil}
 use Prim.Native.Nat.{ℕ, zero, suc, _+_, _-_, _≤_, _<_}
@@ -83,3 +83,54 @@ unfolding groupsIn
 groups-again ks [] rest fit h = refl
 groups-again ks (g ∷ gs) rest fit h =
     rw (append-assoc, group-again ks g (groupsText ks gs ++ rest) fit (h .0), groups-again ks gs rest fit (h .1)) refl
+
+-- ---- whatever is read is what would be written
+
+pub got-injective : {A : Type 0} {a b : A} {t u : List ℕ} → got a t ≡ got b u → (a ≡ b) × (t ≡ u)
+got-injective e = (cc, cc)
+
+pub got≢missing : {A : Type 0} {a : A} {t : List ℕ} → got a t ≡ missing → ⊥
+got≢missing e = let z : _≡_ {A = ℕ} 0 1 = cc in absurd (omega arith)
+
+-- what holds of one thing before others, where each is there, holds of what is there of both
+one-taken : {A : Type 0} (x : Got A) (more : List ℕ → Got (List A)) (all : List A) (rest : List ℕ) (P : List A → Type 0)
+    → andThen x (λ a t. andThen (more t) (λ bs t. got (a ∷ bs) t)) ≡ got all rest
+    → ((a : A) (t : List ℕ) (bs : List A) → x ≡ got a t → more t ≡ got bs rest → P (a ∷ bs)) → P all
+one-taken {A} (got a t) more all rest P e f = by-more (more t) refl e
+  where
+    by-more : (y : Got (List A)) → more t ≡ y → andThen y (λ bs t. got (a ∷ bs) t) ≡ got all rest → P all
+    by-more (got bs u) q e = let g = got-injective e in subst P (g .0) (f a t bs refl (q ∙ ap (got bs) (g .1)))
+    by-more missing q e = absurd (got≢missing (sym e))
+one-taken missing more all rest P e f = absurd (got≢missing (sym e))
+
+pub line-taken : (k : Key) (t : List ℕ) (n : ℕ) (rest : List ℕ) → numberLine k t ≡ got n rest → (t ≡ line (k .name) (decimal n) ++ rest) × (n ≤ k .most)
+unfolding numberLine
+line-taken k t n rest e = by-number (fieldIn (k .name) (k .most) t) refl e
+  where
+    by-number : (m : Number) → fieldIn (k .name) (k .most) t ≡ m → cond (isNumber m) (got (valueIn m) (drop (suc (lineLength t)) t)) missing ≡ got n rest
+        → (t ≡ line (k .name) (decimal n) ++ rest) × (n ≤ k .most)
+    by-number (Is m) f e =
+        let g = got-injective (rw (number-is m, number-value m) at e) in
+        rw (sym (g .0), sym (g .1)) (field-whole (k .name) (k .most) t m f, field-put (k .name) (k .most) t m f .2)
+    by-number Malformed f e = absurd (got≢missing (sym (rw no-number at e)))
+
+pub group-taken : (ks : List Key) (t ns rest : List ℕ) → groupIn ks t ≡ got ns rest → (t ≡ groupText ks ns ++ rest) × Held ks ns
+unfolding groupIn
+group-taken [] t ns rest e = let g = got-injective e in rw (sym (g .0), sym (g .1)) (refl, tt)
+group-taken (k ∷ ks) t ns rest e =
+    one-taken (numberLine k t) (groupIn ks) ns rest (λ ns. (t ≡ groupText (k ∷ ks) ns ++ rest) × Held (k ∷ ks) ns) e
+    (λ n u ms first others.
+    let l = line-taken k t n u first in
+    let m = group-taken ks u ms rest others in
+    (l .0 ∙ rw (m .0, append-assoc) refl, (l .1, m .1)))
+
+pub groups-taken : (ks : List Key) (count : ℕ) (t : List ℕ) (gs : List (List ℕ)) (rest : List ℕ) → groupsIn ks count t ≡ got gs rest
+    → (t ≡ groupsText ks gs ++ rest) × (length gs ≡ count) × AllHeld ks gs
+unfolding groupsIn
+groups-taken ks zero t gs rest e = let g = got-injective e in rw (sym (g .0), sym (g .1)) (refl, refl, tt)
+groups-taken ks (suc n) t gs rest e =
+    one-taken (groupIn ks t) (groupsIn ks n) gs rest (λ gs. (t ≡ groupsText ks gs ++ rest) × (length gs ≡ suc n) × AllHeld ks gs) e
+    (λ g u hs first others.
+    let l = group-taken ks t g u first in
+    let m = groups-taken ks n u hs rest others in
+    (l .0 ∙ rw (m .0, append-assoc) refl, ap suc (m .1), (l .1, m .2)))
