@@ -134,3 +134,64 @@ groups-taken ks (suc n) t gs rest e =
     let l = group-taken ks t g u first in
     let m = groups-taken ks n u hs rest others in
     (l .0 ∙ rw (m .0, append-assoc) refl, ap suc (m .1), (l .1, m .2)))
+
+-- ---- field after field
+
+-- a line with a number, as `read_field` tells of it
+pub line-told : (k : Key) (text : List ℕ) (at : ℕ) (f : Field) → FieldRead (k .name) (k .most) text at f
+    → numberLine k (drop at text) ≡ cond (f .ok) (got (f .value) (drop (f .next) text)) missing
+unfolding numberLine
+line-told k text at f told = by-test (isNumber (fieldIn (k .name) (k .most) (drop at text))) refl
+  where
+    by-test : (t : Bool) → isNumber (fieldIn (k .name) (k .most) (drop at text)) ≡ t
+        → cond (isNumber (fieldIn (k .name) (k .most) (drop at text)))
+        (got (valueIn (fieldIn (k .name) (k .most) (drop at text))) (drop (suc (lineLength (drop at text))) (drop at text))) missing
+        ≡ cond (f .ok) (got (f .value) (drop (f .next) text)) missing
+    by-test true e = rw (told .ok, told .value, told .next, e) (ap (got (valueIn (fieldIn (k .name) (k .most) (drop at text)))) (drop-drop (suc (lineLength (drop at text))) at text))
+    by-test false e = rw (told .ok, e) refl
+
+-- some before others that are there
+abbrev before : {A : Type 0} → List A → Got (List A) → Got (List A)
+before some x = andThen x (λ others t. got (some ++ others) t)
+
+before-none : {A : Type 0} (x : Got (List A)) → before [] x ≡ x
+before-none (got bs t) = refl
+before-none missing = refl
+
+before-both : {A : Type 0} (some others : List A) (x : Got (List A)) → before some (before others x) ≡ before (some ++ others) x
+before-both some others (got bs t) = ap (λ (l : List _). got l t) (sym (append-assoc some others bs))
+before-both some others missing = refl
+
+-- the first keys of a group are read, whatever the others are
+pub record GroupRead (text : List ℕ) (at : ℕ) (ks : List Key) (ok : Bool) (ns : List ℕ) (next : ℕ) : Type 0 where
+  pub rest : (more : List Key)
+      → groupIn (ks ++ more) (drop at text) ≡ cond ok (andThen (groupIn more (drop next text)) (λ ms t. got (ns ++ ms) t)) missing
+
+then-told : {A B : Type 0} (ok : Bool) (a : A) (t : List ℕ) (next : A → List ℕ → Got B) → andThen (cond ok (got a t) missing) next ≡ cond ok (next a t) missing
+then-told true a t next = refl
+then-told false a t next = refl
+
+pub group-first : (k : Key) (text : List ℕ) (at : ℕ) (f : Field) → FieldRead (k .name) (k .most) text at f
+    → GroupRead text at (k ∷ []) (f .ok) (f .value ∷ []) (f .next)
+unfolding groupIn
+group-first k text at f told =
+    record { rest = λ more. rw (line-told k text at f told) (then-told (f .ok) (f .value) (drop (f .next) text) _) }
+
+pub group-next : {text : List ℕ} {at : ℕ} {ks : List Key} {ok : Bool} {ns : List ℕ} {next : ℕ} → GroupRead text at ks ok ns next
+    → (k : Key) (f : Field) → FieldRead (k .name) (k .most) text next f
+    → GroupRead text at (ks ++ (k ∷ [])) (ok && f .ok) (ns ++ (f .value ∷ [])) (f .next)
+group-next {text} {at} {ks} {ok} {ns} {next} first k f told =
+    record {
+      rest = λ more. rw (append-assoc, first .rest (k ∷ more), group-first k text next f told .rest more) (by-tests ok (f .ok) (groupIn more (drop (f .next) text)));
+    }
+  where
+    by-tests : (s t : Bool) (x : Got (List ℕ))
+        → cond s (before ns (cond t (before (f .value ∷ []) x) missing)) missing ≡ cond (s && t) (before (ns ++ (f .value ∷ [])) x) missing
+    by-tests true true x = before-both ns (f .value ∷ []) x
+    by-tests true false x = refl
+    by-tests false t x = refl
+
+pub group-read : {text : List ℕ} {at : ℕ} {ks : List Key} {ok : Bool} {ns : List ℕ} {next : ℕ} → GroupRead text at ks ok ns next
+    → groupIn ks (drop at text) ≡ cond ok (got ns (drop next text)) missing
+unfolding groupIn
+group-read {ks = ks} {ns = ns} first = rw (append-nil ks, append-nil ns) at (first .rest [])
