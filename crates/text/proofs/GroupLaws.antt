@@ -141,14 +141,13 @@ groups-taken ks (suc n) t gs rest e =
 pub line-told : (k : Key) (text : List ℕ) (at : ℕ) (f : Field) → FieldRead (k .name) (k .most) text at f
     → numberLine k (drop at text) ≡ cond (f .ok) (got (f .value) (drop (f .next) text)) missing
 unfolding numberLine
-line-told k text at f told = by-test (isNumber (fieldIn (k .name) (k .most) (drop at text))) refl
+line-told k text at f told =
+    let m = fieldIn (k .name) (k .most) (drop at text) in
+    rw (told .ok, told .value, told .next) (by-test (isNumber m) (valueIn m) (suc (lineLength (drop at text))))
   where
-    by-test : (t : Bool) → isNumber (fieldIn (k .name) (k .most) (drop at text)) ≡ t
-        → cond (isNumber (fieldIn (k .name) (k .most) (drop at text)))
-        (got (valueIn (fieldIn (k .name) (k .most) (drop at text))) (drop (suc (lineLength (drop at text))) (drop at text))) missing
-        ≡ cond (f .ok) (got (f .value) (drop (f .next) text)) missing
-    by-test true e = rw (told .ok, told .value, told .next, e) (ap (got (valueIn (fieldIn (k .name) (k .most) (drop at text)))) (drop-drop (suc (lineLength (drop at text))) at text))
-    by-test false e = rw (told .ok, e) refl
+    by-test : (t : Bool) (n l : ℕ) → cond t (got n (drop l (drop at text))) missing ≡ cond t (got n (drop (cond t (at + l) at) text)) missing
+    by-test true n l = ap (got n) (drop-drop l at text)
+    by-test false n l = refl
 
 -- some before others that are there
 abbrev before : {A : Type 0} → List A → Got (List A) → Got (List A)
@@ -182,7 +181,8 @@ pub group-next : {text : List ℕ} {at : ℕ} {ks : List Key} {ok : Bool} {ns : 
     → GroupRead text at (ks ++ (k ∷ [])) (ok && f .ok) (ns ++ (f .value ∷ [])) (f .next)
 group-next {text} {at} {ks} {ok} {ns} {next} first k f told =
     record {
-      rest = λ more. rw (append-assoc, first .rest (k ∷ more), group-first k text next f told .rest more) (by-tests ok (f .ok) (groupIn more (drop (f .next) text)));
+      rest = λ more.
+          rw (append-assoc, first .rest (k ∷ more), group-first k text next f told .rest more) (by-tests ok (f .ok) (groupIn more (drop (f .next) text)));
     }
   where
     by-tests : (s t : Bool) (x : Got (List ℕ))
@@ -195,3 +195,52 @@ pub group-read : {text : List ℕ} {at : ℕ} {ks : List Key} {ok : Bool} {ns : 
     → groupIn ks (drop at text) ≡ cond ok (got ns (drop next text)) missing
 unfolding groupIn
 group-read {ks = ks} {ns = ns} first = rw (append-nil ks, append-nil ns) at (first .rest [])
+
+-- ---- group after group
+
+-- the first `done` groups are read, and the others are still in the text from a place on
+pub record GroupsRead (ks : List Key) (count : ℕ) (text : List ℕ) (at done : ℕ) (gs : List (List ℕ)) (place : ℕ) : Type 0 where
+  pub within : done ≤ count
+  pub rest : groupsIn ks count (drop at text) ≡ andThen (groupsIn ks (count - done) (drop place text)) (λ hs t. got (gs ++ hs) t)
+
+pub groups-start : (ks : List Key) (count : ℕ) (text : List ℕ) (at : ℕ) → GroupsRead ks count text at 0 [] at
+groups-start ks count text at =
+    let all : count - 0 ≡ count = omega arith in
+    record { within = omega arith; rest = rw all (sym (before-none (groupsIn ks count (drop at text)))) }
+
+module _ {ks : List Key} {count : ℕ} {text : List ℕ} {at done : ℕ} {gs : List (List ℕ)} {place : ℕ} (m : GroupsRead ks count text at done gs place) where
+  -- one group more, as it was told
+  module _ (h : done < count) (ok : Bool) (g : List ℕ) (next : ℕ) (told : groupIn ks (drop place text) ≡ cond ok (got g (drop next text)) missing) where
+    rest-is : groupsIn ks count (drop at text) ≡ before gs (cond ok (before (g ∷ []) (groupsIn ks (count - (done + 1)) (drop next text))) missing)
+    unfolding groupsIn
+    rest-is =
+        let more : count - done ≡ suc (count - (done + 1)) = omega arith in
+        m .rest ∙ rw (more, told) (ap (before gs) (then-told ok g (drop next text) _))
+
+    pub groups-on : ok ≡ true → GroupsRead ks count text at (done + 1) (gs ++ (g ∷ [])) next
+    groups-on e = record { within = omega arith; rest = rest-is ∙ rw e (before-both gs (g ∷ []) (groupsIn ks (count - (done + 1)) (drop next text))) }
+
+    pub groups-stop : ok ≡ false → groupsIn ks count (drop at text) ≡ missing
+    groups-stop e = rest-is ∙ rw e refl
+
+  pub groups-end : count ≤ done → groupsIn ks count (drop at text) ≡ got gs (drop place text)
+  unfolding groupsIn
+  groups-end h =
+      let none : count - done ≡ 0 = omega arith in
+      m .rest ∙ rw (none, append-nil gs) refl
+
+-- ---- all of a text
+
+pub whole-told : {A : Type 0} (a : A) (ok : Bool) (next : ℕ) (text : List ℕ)
+    → whole (cond ok (got a (drop next text)) missing) ≡ cond (ok && leb (length text) next) (got a []) missing
+whole-told a false next text = refl
+whole-told a true next text = by-rest (drop next text) (length-drop next text)
+  where
+    by-rest : (t : List ℕ) → length t ≡ length text - next → whole (got a t) ≡ cond (leb (length text) next) (got a []) missing
+    by-rest [] e = rw (le-leb (length text) next (omega arith)) refl
+    by-rest (b ∷ t) e = rw (lt-leb (length text) next (omega arith)) refl
+
+pub whole-taken : {A : Type 0} (x : Got A) (a : A) (rest : List ℕ) → whole x ≡ got a rest → (x ≡ got a []) × (rest ≡ [])
+whole-taken (got b []) a rest e = let g = got-injective e in (rw (g .0) refl, sym (g .1))
+whole-taken (got b (c ∷ t)) a rest e = absurd (got≢missing (sym e))
+whole-taken missing a rest e = absurd (got≢missing (sym e))
