@@ -135,6 +135,25 @@ groups-taken ks (suc n) t gs rest e =
     let m = groups-taken ks n u hs rest others in
     (l .0 ∙ rw (m .0, append-assoc) refl, ap suc (m .1), (l .1, m .2)))
 
+-- ---- parts of what is read
+
+-- some before others that are there
+abbrev before : {A : Type 0} → List A → Got (List A) → Got (List A)
+before some x = andThen x (λ others t. got (some ++ others) t)
+
+before-none : {A : Type 0} (x : Got (List A)) → before [] x ≡ x
+before-none (got bs t) = refl
+before-none missing = refl
+
+before-both : {A : Type 0} (some others : List A) (x : Got (List A)) → before some (before others x) ≡ before (some ++ others) x
+before-both some others (got bs t) = ap (λ (l : List _). got l t) (sym (append-assoc some others bs))
+before-both some others missing = refl
+
+-- what comes after it, where it is told whether it is there
+then-told : {A B : Type 0} (ok : Bool) (a : A) (t : List ℕ) (next : A → List ℕ → Got B) → andThen (cond ok (got a t) missing) next ≡ cond ok (next a t) missing
+then-told true a t next = refl
+then-told false a t next = refl
+
 -- ---- field after field
 
 -- a line with a number, as `read_field` tells of it
@@ -149,26 +168,10 @@ line-told k text at f told =
     by-test true n l = ap (got n) (drop-drop l at text)
     by-test false n l = refl
 
--- some before others that are there
-abbrev before : {A : Type 0} → List A → Got (List A) → Got (List A)
-before some x = andThen x (λ others t. got (some ++ others) t)
-
-before-none : {A : Type 0} (x : Got (List A)) → before [] x ≡ x
-before-none (got bs t) = refl
-before-none missing = refl
-
-before-both : {A : Type 0} (some others : List A) (x : Got (List A)) → before some (before others x) ≡ before (some ++ others) x
-before-both some others (got bs t) = ap (λ (l : List _). got l t) (sym (append-assoc some others bs))
-before-both some others missing = refl
-
 -- the first keys of a group are read, whatever the others are
 pub record GroupRead (text : List ℕ) (at : ℕ) (ks : List Key) (ok : Bool) (ns : List ℕ) (next : ℕ) : Type 0 where
   pub rest : (more : List Key)
       → groupIn (ks ++ more) (drop at text) ≡ cond ok (andThen (groupIn more (drop next text)) (λ ms t. got (ns ++ ms) t)) missing
-
-then-told : {A B : Type 0} (ok : Bool) (a : A) (t : List ℕ) (next : A → List ℕ → Got B) → andThen (cond ok (got a t) missing) next ≡ cond ok (next a t) missing
-then-told true a t next = refl
-then-told false a t next = refl
 
 pub group-first : (k : Key) (text : List ℕ) (at : ℕ) (f : Field) → FieldRead (k .name) (k .most) text at f
     → GroupRead text at (k ∷ []) (f .ok) (f .value ∷ []) (f .next)
