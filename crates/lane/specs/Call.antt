@@ -23,8 +23,9 @@ use Rattle.lane.specs.Table.{loadNo, loadedState}
 use Rattle.lane.specs.Calls.{ifAccepted, startNo, begunState, walk, enterNo, enteredState, namedNo, leftState, namedReading, cycleNo, cycleWord, cycleReplaced, cycleGone, cycledState, surfaceNo, surfacedState}
 use Rattle.lane.specs.Opening.{Span, nowhere, openingIn, openingNo}
 use Rattle.lane.specs.Listing.{laneText, textNo, textBytes}
+use Rattle.lane.specs.Handover.{handoverText, handoverNo, handoverBytes}
 
--- a call with its arguments, but for the lane; of the lane text, the bytes of the lent buffer before the call
+-- a call with its arguments, but for the lane; of a text that is written, the bytes of the lent buffer before the call
 pub data Call : Type 0 where
   start-call : Road → (first : ℕ) → Call
   load-call : (text : List ℕ) → Call
@@ -35,6 +36,7 @@ pub data Call : Type 0 where
   read-call : (number : ℕ) → Call
   opening-call : Gap → Newcomer → Call
   text-call : (buffer : List ℕ) → Call
+  handover-call : (buffer : List ℕ) → Call
 
 -- what a call answers: its number, and values that are zero where it has none; the bytes of the lent buffer after it, none where it has none
 pub record Answer : Type 0 where
@@ -82,8 +84,8 @@ pub record Meaning : Type 0 where
   pub lent : List ℕ
   pub reads : Bool
 
--- an entry answers the place where the walk ends, a cycle word, replaced and gone, a read two doubles, an opening its positions, the lane text its
--- length and bytes; read, opening and lane text change nothing: T-07, "the lane isn't changed"
+-- an entry answers the place where the walk ends, a cycle word, replaced and gone, a read two doubles, an opening its positions, lane text and handover
+-- length and bytes; read, opening, lane text and handover change nothing: T-07, "the lane isn't changed"
 abbrev pub meaning : Call → Meaning
 meaning (start-call road first) =
     record { number = λ s. startNo s road; after = λ s. begunState s road first; answer = λ s. bare 0 []; lent = []; reads = false }
@@ -118,6 +120,14 @@ meaning (text-call buffer) =
       number = λ s. textNo s buffer;
       after = λ s. s;
       answer = λ s. told 0 (length (laneText s)) (textBytes s buffer);
+      lent = buffer;
+      reads = true;
+    }
+meaning (handover-call buffer) =
+    record {
+      number = λ s. handoverNo s buffer;
+      after = λ s. s;
+      answer = λ s. told 0 (length (handoverText s)) (handoverBytes s buffer);
       lent = buffer;
       reads = true;
     }

@@ -10,6 +10,7 @@ pub mod Table
 pub mod Calls
 pub mod Opening
 pub mod Listing
+pub mod Handover
 pub mod Call
 pub mod Given
 pub mod Cases

@@ -40,3 +40,7 @@ lastCycle = 18446744073709551615
 -- the longest lane text: a line for the number of carriers, and of each at most 5, 10, 4, 5 and 3 digits
 abbrev pub longestText : ℕ
 longestText = 3720
+
+-- the longest handover text: 48 lines of at most 6 bytes, lines of 10, 15, 11 and 27 bytes, and the longest lane text
+abbrev pub longestHandover : ℕ
+longestHandover = 4071

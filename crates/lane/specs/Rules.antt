@@ -46,22 +46,36 @@ unlawful road c = badNumber (c .number) || tooFast road c || tooLong c || badRat
 unfoldable pub pastEnd : Road → Carrier → Bool
 pastEnd road c = leb (road .end + c .length) (c .position)
 
+-- carriers of which one breaks a rule other than safety: by itself, by a tail at or past the end, or by a number that stands twice
+abbrev pub misfit : Road → List Carrier → Bool
+misfit road cs = anyOf (λ c. unlawful road c || pastEnd road c) cs || repeats cs
+
 -- carriers of which one breaks a rule: by itself, by a tail at or past the end, by a number that stands twice, or not safe
 unfoldable pub faulty : Row → Road → List Carrier → Bool
-faulty r road cs = anyOf (λ c. unlawful road c || pastEnd road c) cs || repeats cs || not (laneSafe r cs)
+faulty r road cs = misfit road cs || not (laneSafe r cs)
+
+-- what 21 looks at beside the carriers
+abbrev pub unfounded : State → Bool
+unfounded s =
+    not (s .started)
+    || not (eqb (roadNo (s .road)) 0)
+    || unsound (s .tables .inForce)
+    || unsound (s .tables .next)
+    || ltb mostCarriers (s .count)
 
 -- "21 never started, or the lane handed in breaks a rule of this paper (a surface or bound outside its range, more than 64 carriers,
 -- a number 0 or twice, a speed above the limit, a position at or past the end, a lane not safe)"; document 02, T-01: "A lane handed in with an
 -- unsound row gets 21", of those in force or of those for the next start; T-03: "21 looks at the tail likewise, and at a length out of range"; T-06:
 -- "21 covers a rate out of range too."
 unfoldable pub broken : State → Bool
-broken s =
-    not (s .started)
-    || not (eqb (roadNo (s .road)) 0)
-    || unsound (s .tables .inForce)
-    || unsound (s .tables .next)
-    || ltb mostCarriers (s .count)
-    || faulty (rowIn (s .tables) (s .road)) (s .road) (s .carriers)
+broken s = unfounded s || faulty (rowIn (s .tables) (s .road)) (s .road) (s .carriers)
+
+-- document 02, T-08: "36 .. a lane that 21 refuses for anything but safety; 37 the lane isn't safe, after 36"
+unfoldable pub carriersNo : Row → Road → List Carrier → ℕ
+carriersNo r road cs = cond (misfit road cs) 36 (cond (laneSafe r cs) 0 37)
+
+unfoldable pub laneNo : State → ℕ
+laneNo s = cond (unfounded s) 36 (carriersNo (rowIn (s .tables) (s .road)) (s .road) (s .carriers))
 
 -- a newcomer's speed, length and own rate: "6 speed above the limit"; T-03: "33 length too large, after 6"; T-06: "35 own rate outside its range,
 -- after 33"

@@ -1,13 +1,15 @@
-// The lane's calls: load, start, enter, leave, surface, cycle, read, find an opening, lane text; and `find`, by which they look a carrier number up. A
-// lane is lent and changed in place. `no` is 0 where a call is accepted, else the number of its refusal, with every value zero and every word of the lane as it was.
+// The lane's calls: load, start, enter, leave, surface, cycle, read, find an opening, lane text, handover; `take_over`, by which a lane begins from a
+// text; and `find`, by which they look a carrier number up. A lane is lent and changed in place. `no` is 0 where a call is accepted, else the number of
+// its refusal, with every value zero and every word of the lane as it was, but for a refused `take_over`, which leaves the empty lane.
 ghost use mathlib.Core.Path.{_≡_};
 ghost use mathlib.Core.Bool.{false};
 ghost use mathlib.Core.List.{[]};
 ghost use lib.Ieee.Exact.{HasValue};
 ghost use Rattle.lane.specs.Layout.{stateOf, withCode, emptyWords};
 ghost use Rattle.lane.specs.Calls.{namedCarrier};
-ghost use Rattle.lane.specs.Call.{load-call, start-call, enter-call, leave-call, surface-call, cycle-call, read-call, opening-call, text-call, bare, entered, cycled, readOut, opening, listed, Gives};
+ghost use Rattle.lane.specs.Call.{load-call, start-call, enter-call, leave-call, surface-call, cycle-call, read-call, opening-call, text-call, handover-call, bare, entered, cycled, readOut, opening, listed, Gives};
 ghost use Rattle.lane.specs.Given.{GivesWith};
+ghost use Rattle.lane.specs.Handover.{TakesOver};
 
 mod given;
 mod layout;
@@ -19,6 +21,7 @@ mod places;
 mod rows;
 mod rules;
 mod table;
+mod transfer;
 mod weather;
 
 pub use lookup::Found;
@@ -50,6 +53,9 @@ pub const LAST_CYCLE: u64 = 18446744073709551615;
 
 // The longest lane text.
 pub const LONGEST_TEXT: usize = 3720;
+
+// The longest handover text.
+pub const LONGEST_HANDOVER: usize = 4071;
 
 // The keys of a carrier's lines.
 pub const CAR: [u8; 4] = *b"car=";
@@ -164,8 +170,10 @@ pub fn empty(l: &mut Lane)
 pub fn load(l: &mut Lane, text: &[u8]) -> u32
     ensures { λ r. ⌜ Gives (load-call (now (text .entry))) (now (l .entry)) (bare r []) (now (l .exit)) ⌝ }
 {
-    let table = table::read(text);
-    let no = rules::load_refusal(l, rows::unsound(table));
+    let mut table = [[0u64; 3]; SURFACES];
+    let lines = table::read(text, 0, &mut table);
+    let bad = !lines.ok | (lines.next < text.len()) | rows::unsound(table);
+    let no = rules::load_refusal(l, bad);
     if no != 0 {
         return no;
     }
@@ -277,8 +285,36 @@ pub fn lane_text(l: &Lane, out: &mut [u8]) -> Listed
     if listing::longer_than(l, out.len()) {
         return Listed { no: 9, length: 0 };
     }
-    let length = listing::put_text(l, out);
+    let length = listing::put_text(l, out, 0);
     Listed { no: 0, length }
+}
+
+// The whole lane as text into a lent buffer, and its length.
+pub fn handover(l: &Lane, out: &mut [u8]) -> Listed
+    ensures { λ r. ⌜ Gives (handover-call (now (out .entry))) (now (l .entry)) (listed r (now (out .exit))) (now (l .entry)) ⌝ }
+{
+    if rules::breaks_rule(l) {
+        return Listed { no: 21, length: 0 };
+    }
+    if out.len() < transfer::text_length(l) {
+        return Listed { no: 9, length: 0 };
+    }
+    let length = transfer::put_text(l, out);
+    Listed { no: 0, length }
+}
+
+// A lane from the text of a handover, whatever the lent one holds; a refused text leaves the empty lane.
+pub fn take_over(l: &mut Lane, text: &[u8]) -> u32
+    ensures { λ r. ⌜ TakesOver (now (text .entry)) r (now (l .exit)) ⌝ }
+{
+    let mut no: u32 = 36;
+    if transfer::read(l, text) {
+        no = rules::lane_refusal(l);
+    }
+    if no != 0 {
+        layout::clear(l);
+    }
+    no
 }
 
 // One cycle. The first `count` wishes are looked at.

@@ -8,7 +8,7 @@ ghost use lib.Seq.{slice};
 ghost use Rattle.headway.specs.Totals.{restOf};
 ghost use Rattle.lane.specs.Layout.{recordsIn, stateOf};
 ghost use Rattle.lane.specs.Safety.{leader, guaranteedRate, reachTo, safeWith, anyOf, numbered};
-ghost use Rattle.lane.specs.Rules.{badNumber, badRate, roadNo, unlawful as unlawfulIn, pastEnd, faulty, broken, valuesNo, newcomerNo};
+ghost use Rattle.lane.specs.Rules.{badNumber, badRate, roadNo, unlawful as unlawfulIn, pastEnd, broken, carriersNo, laneNo, valuesNo, newcomerNo};
 ghost use Rattle.lane.specs.Table.{tableIn, badTable, loadNo};
 ghost use Rattle.lane.specs.Calls.{none, ifAccepted, startNo, walk, gapNo, placeNo, enterNo, namedNo, placeOf, readyNo};
 use crate::Carrier;
@@ -202,27 +202,29 @@ fn linked(l: &Lane, next: &[u8; 64], first: usize, count: usize, number: u64) ->
     false
 }
 
-// The carriers break a rule, by the row in force, looked at from the back. A number is searched for among those alike in their low six bits: `first`
-// has the place of the first of each sort so far, and `next` links it to the others.
-fn any_fault(l: &Lane, road: Road, row: Row, count: usize) -> bool
+// The checks of the carriers, by the row in force: 36, and 37 where they are not safe but break no other rule. They are looked at from the back. A
+// number is searched for among those alike in their low six bits: `first` has the place of the first of each sort so far, and `next` links it to the
+// others.
+fn carriers_refusal(l: &Lane, road: Road, row: Row, count: usize) -> u32
     requires { ⌜ (count ≤ 64) × ((length (recordsIn (now l)) ≡ 64) × (roadNo road ≡ 0)) ⌝ }
     requires { ⌜ (1 ≤ row .guaranteed) × (1 ≤ row .hardest) ⌝ }
-    ensures { λ r. ⌜ r ≡ faulty row road (take count (recordsIn (now (l .entry)))) ⌝ }
+    ensures { λ r. ⌜ r ≡ carriersNo row road (take count (recordsIn (now (l .entry)))) ⌝ }
 {
     let mut behind = layout::no_carrier();
     let mut first: [u8; 64] = [64; 64];
     let mut next: [u8; 64] = [64; 64];
     let mut stop: u64 = 0;
+    let mut safe = true;
     let mut i = count;
     while 0 < i {
         i -= 1;
         let c = layout::carrier_at(l, i);
         if unlawful(road, c) | past_end(road, c) {
-            return true;
+            return 36;
         }
         if i + 1 < count {
             if !safe_at(row, c, behind, stop) {
-                return true;
+                safe = false;
             }
         }
         behind = c;
@@ -230,33 +232,43 @@ fn any_fault(l: &Lane, road: Road, row: Row, count: usize) -> bool
         let sort = (c.number % 64) as usize;
         let mark = first[sort];
         if linked(l, &next, place_of(mark), count, c.number) {
-            return true;
+            return 36;
         }
         next[i] = mark;
         first[sort] = i as u8;
     }
-    false
+    if safe {
+        return 0;
+    }
+    37
+}
+
+// What check 21 refuses: 36 for anything but safety, 37 where the lane isn't safe, 0 where it breaks no rule.
+pub(crate) fn lane_refusal(l: &Lane) -> u32
+    ensures { λ r. ⌜ r ≡ laneNo (stateOf (now (l .entry))) ⌝ }
+{
+    let f = layout::figures_of(l);
+    let road = f.road;
+    if !f.started {
+        return 36;
+    }
+    if road_refusal(road) != 0 {
+        return 36;
+    }
+    if rows::unsound_in(l, layout::IN_FORCE) | rows::unsound_in(l, layout::NEXT) {
+        return 36;
+    }
+    if MOST_CARRIERS < f.count {
+        return 36;
+    }
+    carriers_refusal(l, road, rows::row_in(l, road), f.count)
 }
 
 // Check 21.
 pub(crate) fn breaks_rule(l: &Lane) -> bool
     ensures { λ r. ⌜ r ≡ broken (stateOf (now (l .entry))) ⌝ }
 {
-    let f = layout::figures_of(l);
-    let road = f.road;
-    if !f.started {
-        return true;
-    }
-    if road_refusal(road) != 0 {
-        return true;
-    }
-    if rows::unsound_in(l, layout::IN_FORCE) | rows::unsound_in(l, layout::NEXT) {
-        return true;
-    }
-    if MOST_CARRIERS < f.count {
-        return true;
-    }
-    any_fault(l, road, rows::row_in(l, road), f.count)
+    lane_refusal(l) != 0
 }
 
 // A check's number, 0 where all are passed, and the place that the call is about.
