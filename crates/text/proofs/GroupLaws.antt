@@ -1,22 +1,22 @@
 -- The laws of groups of numbers, all that the crates above use of how `specs/Groups` reads: what was written is read again, whatever is read is
--- what would be written, and what functions tell of it, field after field and group after group.
+-- what would be written, and what functions tell of it, that read field after field and group after group or put line after line.
 use mathlib.Core.Path.{_≡_, refl, sym, ap, subst, _∙_}
 use mathlib.Core.Bool.{Bool, true, false, not, _&&_, cond}
 use mathlib.Core.List.{List, [], _∷_, _++_, append-assoc, append-nil}
 use Prim.Native.Nat.{ℕ, zero, suc, _+_, _-_, _≤_, _<_}
 use native.Mathlib.Omega.{arith}
 use lib.Dec.{leb, eqb}
-use lib.ListN.{length, drop, length-drop}
+use lib.ListN.{length, drop, length-drop, length-append}
 use lib.Seq.{drop-drop, drop-append-seam}
 use borrow.Author.Tests.{le-leb, lt-leb, leb-true, eqb-false, not-true}
 use Rattle.text.specs.Numbers.{decimal}
-use Rattle.text.specs.Lines.{line}
+use Rattle.text.specs.Lines.{line, written}
 use Rattle.text.specs.Fields.{lineLength, fieldIn, isNumber, valueIn, FieldRead}
 use Rattle.text.specs.Groups.{Key, groupText, groupsText, Got, got, missing, andThen, whole, numberLine, groupIn, groupsIn}
 use Rattle.text.specs.declared.fields.Field.{Field}
 use Rattle.text.specs.declared.numbers.Number.{Number}
 use Rattle.text.specs.declared.numbers.Number.the-variants.{Is, Malformed}
-use Rattle.text.proofs.Laws.{decimal-at-most, length-line}
+use Rattle.text.proofs.Laws.{decimal-at-most, length-line, place-fits, Put, put-both}
 use Rattle.text.proofs.Reading.{both}
 use Rattle.text.proofs.ReadLaws.{number-is, number-value, no-number, no-bytes, no-newline, decimal-no-newline, length-of-line, field-read, field-put, field-whole}
 
@@ -198,6 +198,45 @@ pub group-read : {text : List ℕ} {at : ℕ} {ks : List Key} {ok : Bool} {ns : 
     → groupIn ks (drop at text) ≡ cond ok (got ns (drop next text)) missing
 unfolding groupIn
 group-read {ks = ks} {ns = ns} first = rw (append-nil ks, append-nil ns) at (first .rest [])
+
+-- ---- line after line
+
+-- a line more
+one-more : (ks : List Key) (ns : List ℕ) (k : Key) (n : ℕ) → length ns ≡ length ks
+    → groupText (ks ++ (k ∷ [])) (ns ++ (n ∷ [])) ≡ groupText ks ns ++ line (k .name) (decimal n)
+one-more [] [] k n e = append-nil (line (k .name) (decimal n))
+one-more [] (m ∷ ns) k n e = absurd (omega arith)
+one-more (j ∷ ks) [] k n e = absurd (omega arith)
+one-more (j ∷ ks) (m ∷ ns) k n e =
+    ap (λ (t : List ℕ). line (j .name) (decimal m) ++ t) (one-more ks ns k n (omega arith))
+    ∙ sym (append-assoc (line (j .name) (decimal m)) (groupText ks ns) (line (k .name) (decimal n)))
+
+-- the first keys of a group are put, with these numbers, from a place of a buffer on, where they fit
+pub record GroupPut (at : ℕ) (ks : List Key) (ns buffer out : List ℕ) (place : ℕ) : Type 0 where
+  pub as-many : length ns ≡ length ks
+  pub put : at + length (groupText ks ns) ≤ length buffer → Put at (groupText ks ns) buffer out place
+
+pub put-first : (k : Key) (n at : ℕ) (buffer out : List ℕ) (place : ℕ) → Put at (line (k .name) (decimal n)) buffer out place
+    → GroupPut at (k ∷ []) (n ∷ []) buffer out place
+put-first k n at buffer out place p = record { as-many = refl; put = λ room. rw (append-nil (line (k .name) (decimal n))) p }
+
+pub put-next : {at : ℕ} {ks : List Key} {ns buffer middle : List ℕ} {next : ℕ} → GroupPut at ks ns buffer middle next
+    → (k : Key) (n : ℕ) (out : List ℕ) (place : ℕ) → Put next (line (k .name) (decimal n)) middle out place
+    → GroupPut at (ks ++ (k ∷ [])) (ns ++ (n ∷ [])) buffer out place
+put-next {at} {ks} {ns} {buffer} first k n out place p =
+    let more = one-more ks ns k n (first .as-many) in
+    let l = line (k .name) (decimal n) in
+    record {
+      as-many = rw (length-append ns (n ∷ []), length-append ks (k ∷ [])) (omega (arith, first .as-many));
+      put = λ room.
+          let all : at + length (groupText ks ns ++ l) ≤ length buffer = rw more at room in
+          rw more (put-both at (groupText ks ns) l buffer all (first .put (omega (arith, length-append (groupText ks ns) l))) p);
+    }
+
+-- so all of it is put
+pub group-put : {at : ℕ} {ks : List Key} {ns buffer out : List ℕ} {place : ℕ} → GroupPut at ks ns buffer out place → at + length (groupText ks ns) ≤ length buffer
+    → (out ≡ written at (groupText ks ns) buffer) × (place ≡ at + length (groupText ks ns))
+group-put {at} {ks} {ns} {buffer} g room = let p = g .put room in (p .0, p .1 ∙ place-fits at (groupText ks ns) buffer room)
 
 -- ---- group after group
 
