@@ -13,16 +13,18 @@ use Rattle.lane.specs.declared.rules.Checked.{Checked}
 use Rattle.lane.specs.Surface.{rowOf, unsound, rowIn}
 use Rattle.lane.specs.Layout.{Words, figuresIn, tableFrom, tablesIn, recordsIn, stateOf}
 use Rattle.lane.specs.Safety.{laneSafe, anyOf, numbered}
-use Rattle.lane.specs.Rules.{roadNo, faulty, broken}
+use Rattle.lane.specs.Rules.{roadNo, broken, carriersNo, laneNo}
 use Rattle.lane.specs.Table.{tableIn, badTable, loadNo}
 use Rattle.lane.specs.Calls.{ifAccepted, walk, gapNo, placeNo, readyNo, surfaceNo}
 
 module _ (l : Words) (f : Figures) (e : f ≡ figuresIn l) where
-  pub broken-checks : broken (stateOf l)
-      ≡ not (f .started) || not (eqb (roadNo (f .road)) 0) || unsound (tableFrom 1 l) || unsound (tableFrom 9 l) || ltb 64 (f .count)
-      || faulty (rowIn (tablesIn l) (f .road)) (f .road) (take (f .count) (recordsIn l))
-  unfolding broken
-  broken-checks = rw e refl
+  pub lane-checks : laneNo (stateOf l)
+      ≡ cond
+      (not (f .started) || not (eqb (roadNo (f .road)) 0) || unsound (tableFrom 1 l) || unsound (tableFrom 9 l) || ltb 64 (f .count))
+      36
+      (carriersNo (rowIn (tablesIn l) (f .road)) (f .road) (take (f .count) (recordsIn l)))
+  unfolding laneNo
+  lane-checks = rw e refl
 
   -- 23 by the state's carriers, as the lookup has them
   pub place-checks : (c : Carrier) → let cs = take (f .count) (recordsIn l) in

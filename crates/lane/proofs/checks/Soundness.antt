@@ -1,6 +1,6 @@
 -- What is known of a road, of carriers and of a state that break no rule, and what is enough for it.
-use mathlib.Core.Path.{_≡_, refl}
-use mathlib.Core.Bool.{true, false, not, _||_}
+use mathlib.Core.Path.{_≡_, refl, sym, _∙_}
+use mathlib.Core.Bool.{Bool, true, false, not, _||_, cond}
 use mathlib.Core.List.{List, _∷_}
 use Prim.Native.Nat.{ℕ, _+_, _≤_, _<_}
 use native.Mathlib.Omega.{arith}
@@ -16,7 +16,7 @@ use Rattle.lane.specs.Surface.{unsound, rowIn}
 use Rattle.lane.specs.Layout.{Words, figuresIn, tablesIn, recordsIn, stateWith, stateOf}
 use Rattle.lane.specs.State.{State}
 use Rattle.lane.specs.Safety.{laneSafe, anyOf, repeats}
-use Rattle.lane.specs.Rules.{outsideOf, badNumber, roadNo, tooFast, tooLong, badRate, unlawful, pastEnd, faulty, broken, newcomerNo}
+use Rattle.lane.specs.Rules.{outsideOf, badNumber, roadNo, tooFast, tooLong, badRate, unlawful, pastEnd, misfit, faulty, unfounded, broken, carriersNo, laneNo, newcomerNo}
 use Rattle.lane.specs.Calls.{none, onSurface}
 use Rattle.lane.proofs.Newcomers.{within, Newcomer, newcomer-is}
 use Rattle.lane.proofs.lists.Lists.{slice-next}
@@ -187,9 +187,14 @@ module _ {r : Row} (road : Road) where
   fit-of l count i d h p k =
       fit road (getD l i d) (none-of (unlawful road) l count i d (h .lawful) p k) (none-of (pastEnd road) l count i d (h .before-end) p k)
 
-  -- and of those from a place on
-  pub fit-from : (l : List Carrier) (count i : ℕ) (d : Carrier) → Faultless r road (slice i count l) → i < count → count ≤ length l → Fit road (getD l i d)
-  fit-from l count i d h p k = fit-at (getD l i d ∷ slice (i + 1) count l) 0 d (rw (slice-next d l i count p k) at h) (omega arith)
+-- and of those from a place on, whether they are safe or not
+pub fit-from : (road : Road) (l : List Carrier) (count i : ℕ) (d : Carrier) → misfit road (slice i count l) ≡ false → i < count → count ≤ length l → Fit road (getD l i d)
+fit-from road l count i d e p k =
+    let alone : Carrier → Bool = λ c. unlawful road c || pastEnd road c in
+    let cs = getD l i d ∷ slice (i + 1) count l in
+    let fitting : misfit road cs ≡ false = rw (slice-next d l i count p k) at e in
+    let t = neither (unlawful road (getD l i d)) (pastEnd road (getD l i d)) (none-at alone cs 0 d (neither (anyOf alone cs) (repeats cs) fitting .0) (omega arith)) in
+    fit road (getD l i d) (t .0) (t .1)
 
 -- ---- a state
 pub record Sound (s : State) : Type 0 where
@@ -240,3 +245,17 @@ sound-holds s h =
 -- of a lane whose figures the code holds
 pub sound-with : (l : Words) (f : Figures) → f ≡ figuresIn l → broken (stateOf l) ≡ false → Sound (stateWith f (tablesIn l) (recordsIn l))
 sound-with l f e unbroken = rw e (sound (stateOf l) unbroken)
+
+-- 21 by the number of what it refuses
+pub broken-no : (s : State) → broken s ≡ not (eqb (laneNo s) 0)
+unfolding broken faulty laneNo carriersNo
+broken-no s = by-tests (unfounded s) (misfit (s .road) (s .carriers)) (laneSafe (rowIn (s .tables) (s .road)) (s .carriers))
+  where
+    by-tests : (u m t : Bool) → u || (m || not t) ≡ not (eqb (cond u 36 (cond m 36 (cond t 0 37))) 0)
+    by-tests true m t = refl
+    by-tests false true t = refl
+    by-tests false false true = refl
+    by-tests false false false = refl
+
+pub lane-no-zero : (s : State) → (laneNo s ≡ 0 → broken s ≡ false) × (broken s ≡ false → laneNo s ≡ 0)
+lane-no-zero s = (λ e. broken-no s ∙ rw e refl, λ e. eqb-true (laneNo s) 0 (not-false _ (sym (broken-no s) ∙ e)))
