@@ -1,7 +1,7 @@
 -- The lane text and made wishes, for the crates above, which leave their definitions shut.
 use mathlib.Core.Path.{_≡_, refl, sym, ap, _∙_}
 use mathlib.Core.Bool.{Bool, true, false, cond}
-use mathlib.Core.List.{List, _++_}
+use mathlib.Core.List.{List, _++_, append-nil}
 use Prim.Native.Nat.{ℕ, _≤_, _<_}
 use native.Mathlib.Omega.{arith}
 use borrow.Author.Tests.{ltb-true, ltb-false}
@@ -32,7 +32,7 @@ pub carrier-lines : (c : Carrier) → carrierText c
     ++ (line (ascii "at=") (decimal (c .position))
     ++ (line (ascii "speed=") (decimal (c .speed)) ++ (line (ascii "length=") (decimal (c .length)) ++ line (ascii "brake=") (decimal (c .rate)))))
 unfolding carrierText
-carrier-lines c = refl
+carrier-lines c = rw append-nil refl
 
 -- of two checks, 21 before 9
 no-nine : (b c : Bool) → ¬ (_≡_ {A = ℕ} (cond b 21 (cond c 9 0)) 9) → _≡_ {A = ℕ} (cond b 21 (cond c 9 0)) (cond b 21 0)

@@ -1,6 +1,7 @@
 -- What a call gives, and what it keeps.
 pub mod Answers
 pub mod Texts
+pub mod Read
 pub mod Runs
 pub mod Entering
 pub mod Leaving

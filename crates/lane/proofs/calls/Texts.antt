@@ -1,14 +1,13 @@
 -- The lane text as its loops over the carriers make it, its length, and what decides `lane_text`.
 use mathlib.Core.Path.{_≡_, refl, ap, _∙_}
 use mathlib.Core.Bool.{true, false}
-use mathlib.Core.List.{List, [], _∷_, _++_, append-assoc}
+use mathlib.Core.List.{List, [], _∷_, _++_, append-assoc, append-nil}
 use Prim.Native.Nat.{ℕ, suc, _+_, _*_, _≤_, _<_}
 use native.Mathlib.Nat.{zero-add}
 use native.Mathlib.Omega.{arith}
 use lib.Dec.{ltb}
 use lib.ListN.{length, getD, take, length-append}
 use lib.Seq.{slice}
-use Rattle.text.specs.Ascii.{ascii}
 use Rattle.text.specs.Numbers.{decimal}
 use Rattle.text.specs.Lines.{line, written}
 use Rattle.text.proofs.Laws.{decimal-at-most, length-line, length-written, place-fits, written-fits, written-nothing, written-then, Put, put-both}
@@ -21,7 +20,7 @@ use Rattle.lane.specs.Surface.{Tables}
 use Rattle.lane.specs.Layout.{Words, stateWith, stateOf}
 use Rattle.lane.specs.Rules.{broken}
 use Rattle.lane.specs.Calls.{none}
-use Rattle.lane.specs.Listing.{carKey, atKey, speedKey, lengthKey, brakeKey, carrierText, carriersText, laneText, textNo, textBytes}
+use Rattle.lane.specs.Listing.{carKey, atKey, speedKey, lengthKey, brakeKey, carsKey, carrierText, carriersText, laneText, textNo, textBytes}
 use Rattle.lane.proofs.lists.Lists.{slice-next, slice-past}
 use Rattle.lane.proofs.checks.Soundness.{SoundRoad, sound}
 use Rattle.lane.proofs.Unbroken.{carriers-lawful}
@@ -84,6 +83,15 @@ length-next d l i count h k = ap length (carriers-next d l i count h k) ∙ simp
 
 -- ---- writes
 
+five-lines : (c : Carrier) → carrierText c
+    ≡ line carKey (decimal (c .number))
+    ++ line atKey (decimal (c .position))
+    ++ line speedKey (decimal (c .speed))
+    ++ line lengthKey (decimal (c .length))
+    ++ line brakeKey (decimal (c .rate))
+unfolding carrierText
+five-lines c = simp (append-assoc, append-nil)
+
 pub put-carrier : (at : ℕ) (c : Carrier) (buffer : List ℕ) {p q r s end : ℕ} {out₁ out₂ out₃ out₄ out : List ℕ} → at + length (carrierText c) ≤ length buffer
     → Put at (line carKey (decimal (c .number))) buffer out₁ p
     → Put p (line atKey (decimal (c .position))) out₁ out₂ q
@@ -91,23 +99,20 @@ pub put-carrier : (at : ℕ) (c : Carrier) (buffer : List ℕ) {p q r s end : �
     → Put r (line lengthKey (decimal (c .length))) out₃ out₄ s
     → Put s (line brakeKey (decimal (c .rate))) out₄ out end
     → (out ≡ written at (carrierText c) buffer) × (end ≡ at + length (carrierText c))
-unfolding carrierText
 put-carrier at c buffer room v w x y z =
     let number = line carKey (decimal (c .number)) in
     let position = line atKey (decimal (c .position)) in
     let speed = line speedKey (decimal (c .speed)) in
     let long = line lengthKey (decimal (c .length)) in
     let rate = line brakeKey (decimal (c .rate)) in
-    let whole : at + length (number ++ position ++ speed ++ long ++ rate) ≤ length buffer = rw (append-assoc, append-assoc, append-assoc) room in
+    let whole : at + length (number ++ position ++ speed ++ long ++ rate) ≤ length buffer = rw five-lines at room in
     let four : at + length (number ++ position ++ speed ++ long) ≤ length buffer = omega (arith, length-append (number ++ position ++ speed ++ long) rate) in
     let three : at + length (number ++ position ++ speed) ≤ length buffer = omega (arith, length-append (number ++ position ++ speed) long) in
     let two = put-both at number position buffer (omega (arith, length-append (number ++ position) speed)) v w in
     let with-speed = put-both at (number ++ position) speed buffer three two x in
     let but-one = put-both at (number ++ position ++ speed) long buffer four with-speed y in
-    let all = put-both at (number ++ position ++ speed ++ long) rate buffer whole but-one z in (
-      rw (append-assoc, append-assoc, append-assoc) at (all .0),
-      rw (append-assoc, append-assoc, append-assoc) at (all .1 ∙ place-fits at (number ++ position ++ speed ++ long ++ rate) buffer whole),
-    )
+    let all = put-both at (number ++ position ++ speed ++ long) rate buffer whole but-one z in
+    rw five-lines (all .0, all .1 ∙ place-fits at (number ++ position ++ speed ++ long ++ rate) buffer whole)
 
 -- what a loop over the carriers has written: those from i on are still to be put, and there is room
 pub record Writing (carriers : List Carrier) (count at₀ : ℕ) (out₀ out : List ℕ) (at i : ℕ) : Type 0 where
@@ -116,34 +121,34 @@ pub record Writing (carriers : List Carrier) (count at₀ : ℕ) (out₀ out : L
   pub room : at + length (carriersText (slice i count carriers)) ≤ length out
   pub rest : written at (carriersText (slice i count carriers)) out ≡ written at₀ (carriersText (take count carriers)) out₀
 
--- the first line is put
-module _ (f : Figures) (tables : Tables) (records : List Carrier) (buffer : List ℕ) {at₀ : ℕ} {out₀ : List ℕ}
-    (room : length (laneText (stateWith f tables records)) ≤ length buffer)
-    (p : Put 0 (line (ascii "cars=") (decimal (f .count))) buffer out₀ at₀) where
+-- the first line is put, at a place of the buffer
+module _ (f : Figures) (tables : Tables) (records : List Carrier) (buffer : List ℕ) (from : ℕ) {at₀ : ℕ} {out₀ : List ℕ}
+    (room : from + length (laneText (stateWith f tables records)) ≤ length buffer)
+    (p : Put from (line (carsKey .name) (decimal (f .count))) buffer out₀ at₀) where
   abbrev header : List ℕ
-  header = line (ascii "cars=") (decimal (f .count))
+  header = line (carsKey .name) (decimal (f .count))
 
   abbrev carriers : List ℕ
   carriers = carriersText (take (f .count) records)
 
-  first-room : length header + length carriers ≤ length buffer
+  first-room : from + length header + length carriers ≤ length buffer
   unfolding laneText
-  first-room = rw length-append at room
+  first-room = omega (arith, room, length-append header carriers)
 
-  first-place : at₀ ≡ 0 + length header
-  first-place = p .1 ∙ place-fits 0 header buffer (omega (arith, first-room))
+  first-place : at₀ ≡ from + length header
+  first-place = p .1 ∙ place-fits from header buffer (omega (arith, first-room))
 
   pub writing-start : Writing records (f .count) at₀ out₀ out₀ at₀ 0
   writing-start =
-      let same : length out₀ ≡ length buffer = ap length (p .0) ∙ length-written 0 header buffer in
+      let same : length out₀ ≡ length buffer = ap length (p .0) ∙ length-written from header buffer in
       record { same = refl; ends = refl; room = omega (arith, first-room, first-place); rest = refl }
 
   pub writing-end : {out : List ℕ} {at i : ℕ} → Writing records (f .count) at₀ out₀ out at i → f .count ≤ i
-      → (out ≡ written 0 (laneText (stateWith f tables records)) buffer) × (at ≡ length (laneText (stateWith f tables records)))
+      → (out ≡ written from (laneText (stateWith f tables records)) buffer) × (at ≡ from + length (laneText (stateWith f tables records)))
   unfolding laneText
   writing-end {out} {at} {i} w h =
       let past = carriers-past records i (f .count) h in (
-        cc (written-nothing at out, past, w .rest, first-place, written-then 0 header carriers buffer (omega (arith, first-room))),
+        cc (written-nothing at out, past, w .rest, first-place, written-then from header carriers buffer first-room),
         rw length-append (omega (arith, ap length past, w .ends, first-place)),
       )
 

@@ -21,7 +21,7 @@ text-length-requires : tie.Need-text-length-requires
 text-length-requires c κs = sound _ (c .before .pre) .count
 
 returns-2 : tie.Need-returns-2
-returns-2 c = ap (ltb (c .before .before .args .size)) (c .text-length .ensures)
+returns-2 c = ap (ltb (c .before .before .args .size)) (c .text-length .ensures .0)
 
 pub longer-than-spec : {M : Type 1} → statement M
 longer-than-spec = tie.close (tie.spec returns text-length-requires returns-2)

@@ -2,7 +2,7 @@
 use borrow.Author.Needs.{needs}
 use mathlib.Core.Path.{_≡_, ap, _∙_}
 use mathlib.Core.List.{List}
-use Prim.Native.Nat.{_-_, _≤_}
+use Prim.Native.Nat.{_+_, _-_, _≤_}
 use native.Mathlib.Omega.{arith}
 use lib.ListN.{length}
 use Rattle.lane.specs.declared.Carrier.{Carrier}
@@ -16,11 +16,11 @@ use Rattle.lane.proofs.listing.put_text.Statement.{statement}
 use Rattle.lane.proofs.listing.put_text.Tie as tie
 
 abbrev Inv-loop : tie.InvT-loop
-Inv-loop l out₀ f at₀ i₀ out at i =
-    (length (recordsIn l) ≡ 64) × ((f .count ≤ 64) × ((i ≤ f .count) × Writing (recordsIn l) (f .count) at₀ out₀ out at i))
+Inv-loop l out₀ at f place₀ i₀ out place i =
+    (length (recordsIn l) ≡ 64) × ((f .count ≤ 64) × ((i ≤ f .count) × Writing (recordsIn l) (f .count) place₀ out₀ out place i))
 
 abbrev μ-loop : tie.MeasureT-loop
-μ-loop l out₀ f at₀ i₀ out at i = f .count - i
+μ-loop l out₀ at f place₀ i₀ out place i = f .count - i
 
 -- what is known once the first line is put
 module _ (c : tie.After-put-decimal-line Inv-loop μ-loop) where
@@ -43,7 +43,7 @@ module _ (c : tie.After-put-decimal-line Inv-loop μ-loop) where
   shows : laneText (stateWith f tables records) ≡ laneText (stateOf (start .args .l .now))
   shows = ap (λ (x : Figures). laneText (stateWith x tables records)) (figures .figures-of .ensures .0)
 
-  room : length (laneText (stateWith f tables records)) ≤ length (start .args .out .now)
+  room : start .args .at + length (laneText (stateWith f tables records)) ≤ length (start .args .out .now)
   room = omega (arith, ap length shows, start .pre .1)
 
 figures-of-requires : tie.Need-figures-of-requires Inv-loop μ-loop
@@ -59,7 +59,7 @@ loop-holds : tie.Need-loop-holds Inv-loop μ-loop
 loop-holds c =
     let first = c .before .before in
     let few : f first .count ≤ 64 = rw (figures first .figures-of .ensures .0) (start first .pre .0) in
-    (figures first .figures-of .ensures .1, (few, (search needs, writing-start (f first) (tables first) (records first) (start first .args .out .now) (room first) (first .put-decimal-line .ensures))))
+    (figures first .figures-of .ensures .1, (few, (search needs, writing-start (f first) (tables first) (records first) (start first .args .out .now) (start first .args .at) (room first) (first .put-decimal-line .ensures))))
 
 carrier-at-requires : tie.Need-carrier-at-requires Inv-loop μ-loop
 carrier-at-requires c κs = search needs
@@ -102,7 +102,7 @@ returns : tie.Need-returns Inv-loop μ-loop
 returns c =
     let at = c .before .before in
     let first = at .before .before .before in
-    rw (shows first) at (writing-end (f first) (tables first) (records first) (start first .args .out .now) (room first) (first .put-decimal-line .ensures) (at .loop .inv .1 .1 .1) (c .if1 .left))
+    rw (shows first) at (writing-end (f first) (tables first) (records first) (start first .args .out .now) (start first .args .at) (room first) (first .put-decimal-line .ensures) (at .loop .inv .1 .1 .1) (c .if1 .left))
 
 pub put-text-spec : {M : Type 1} → statement M
 put-text-spec =

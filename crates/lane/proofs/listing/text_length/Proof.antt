@@ -78,7 +78,7 @@ returns c =
     let tables = tablesIn (figures .before .args .l .now) in
     let past = ap length (carriers-past records (at .loop .i) (f .count) (omega arith)) in
     let whole : at .loop .n ≡ length (laneText (stateWith f tables records)) = rw (length-append, length-line) (omega arith) in
-    whole ∙ ap (λ (x : Figures). length (laneText (stateWith x tables records))) (figures .figures-of .ensures .0)
+    (whole ∙ ap (λ (x : Figures). length (laneText (stateWith x tables records))) (figures .figures-of .ensures .0), omega arith)
 
 pub text-length-spec : {M : Type 1} → statement M
 text-length-spec =
