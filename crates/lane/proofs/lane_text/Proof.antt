@@ -1,5 +1,6 @@
 use mathlib.Core.Path.{_≡_, refl, sym, _∙_, subst, ap₂}
 use mathlib.Core.Bool.{false}
+use native.Mathlib.Nat.{zero-add}
 use native.Mathlib.Omega.{arith}
 use borrow.Author.Needs.{needs}
 use borrow.Author.Tests.{ltb-false}
@@ -43,7 +44,7 @@ fitting : (c : tie.Else2)
 fitting c = sym (c .before .longer-than .ensures) ∙ c .if2 .left
 
 put-text-requires : tie.Need-put-text-requires
-put-text-requires c κs = (sound _ (unbroken (c .before .before .before)) .count, ltb-false _ _ (fitting (c .before)))
+put-text-requires c κs = (sound _ (unbroken (c .before .before .before)) .count, rw zero-add (ltb-false _ _ (fitting (c .before))))
 
 same-length : tie.Need-same-length
 same-length c = search needs
@@ -57,7 +58,7 @@ returns-3 c =
     let s = stateOf (a .l .now) in
     let x = text-call (a .out .now) in
     let bytes = put .put-text .ensures .0 ∙ text-put s (a .out .now) (ltb-false _ _ (fitting fits)) in
-    subst (λ (t : Answer). Gives x (a .l .now) t (a .l .now)) (ap₂ (told 0) (sym (put .put-text .ensures .1)) (sym bytes))
+    subst (λ (t : Answer). Gives x (a .l .now) t (a .l .now)) (ap₂ (told 0) (sym (rw zero-add at (put .put-text .ensures .1))) (sym bytes))
     (gives-accepted x (a .l .now) (a .l .now) (text-fits s (a .out .now) (unbroken passed) (fitting fits)) refl)
 
 pub lane-text-spec : {M : Type 1} → statement M
