@@ -173,7 +173,7 @@ every-input input = by-test (ltb 0 put) refl
 -- for every input there is a run: its calls are the input's blocks, its output is the whole output, what is claimed holds throughout and of
 -- changes of surface, and no block gives 21 after a start
 pub every-input-claimed : (input : List ℕ)
-    → (r : RunOf (take 65537 input)) × (callsIn (r .events) ≡ callsOf input) × (r .out ≡ outputOf input) × Throughout (begun emptyWords) (r .events) × SurfaceChanges emptyWords (r .events) × NeverBroken false (r .events)
+    → (r : RunOf (take 65537 input)) × (callsIn (r .events) ≡ callsOf input) × (r .out ≡ outputOf input) × Throughout (begun emptyWords) (r .events) × SurfaceChanges emptyWords (begun emptyWords) (r .events) × NeverBroken false (r .events)
 every-input-claimed input =
     let r = every-input (take 65537 input) in (
       r,

@@ -14,6 +14,7 @@ use Rattle.lane.specs.State.{State}
 use Rattle.lane.specs.Layout.{Words, stateOf, emptyWords}
 use Rattle.lane.specs.Call.{Call}
 use Rattle.history.specs.Book.{begun}
+use Rattle.history.specs.Begins.{Begins, from-empty}
 use Rattle.history.specs.History.{Event, callsIn, Chain, chain-end, Throughout, SurfaceChanges, NeverBroken}
 use Rattle.history.proofs.History.{chain-history}
 use Rattle.history.proofs.Consequences.{chain-never-broken}
@@ -37,18 +38,22 @@ pub ran-chain : {input : List ℕ} {l end : Words} {at : ℕ} {es : List Event} 
 ran-chain {l = l} {end} (last c e) = subst (λ (es : List Event). Chain l es end) (append-nil (ranBy c)) (one-step c [] chain-end)
 ran-chain (then {es = es} c e k) = one-step c es (ran-chain k)
 
-from-empty : {input : List ℕ} {l end : Words} {at : ℕ} {es : List Event} {out : List ℕ} → l ≡ emptyWords → Ran input l at es end out → Chain emptyWords es end
-from-empty {end = end} {es = es} e r = subst (λ (k : Words). Chain k es end) e (ran-chain r)
+empty-chain : {input : List ℕ} {l end : Words} {at : ℕ} {es : List Event} {out : List ℕ} → l ≡ emptyWords → Ran input l at es end out → Chain emptyWords es end
+empty-chain {end = end} {es = es} e r = subst (λ (k : Words). Chain k es end) e (ran-chain r)
+
+-- what a run begins with
+begins : Begins emptyWords (begun emptyWords)
+begins = from-empty emptyWords refl
 
 -- demand 3 for every run of the program: "each working on the lane that the last one left", from the empty lane on
 pub program-history : (input out : List ℕ) (es : List Event) → Printed input es out → Throughout (begun emptyWords) es
 program-history input out es (refused m h) = tt
-program-history input out es (accepted m h {l} {end} e r) = chain-history emptyWords refl es end (from-empty (e .says) r)
+program-history input out es (accepted m h {l} {end} e r) = chain-history emptyWords (begun emptyWords) begins es end (empty-chain (e .says) r)
 
 -- a block changes the surface exactly where the book's carriers are safe on it, and it serves until another one or a start
-pub program-surface-changes : (input out : List ℕ) (es : List Event) → Printed input es out → SurfaceChanges emptyWords es
-program-surface-changes input out es (refused m h) = chain-surface-changes {l = emptyWords} refl chain-end
-program-surface-changes input out es (accepted m h e r) = chain-surface-changes refl (from-empty (e .says) r)
+pub program-surface-changes : (input out : List ℕ) (es : List Event) → Printed input es out → SurfaceChanges emptyWords (begun emptyWords) es
+program-surface-changes input out es (refused m h) = chain-surface-changes begins chain-end
+program-surface-changes input out es (accepted m h e r) = chain-surface-changes begins (empty-chain (e .says) r)
 
 -- and once a start was accepted no block gives 21
 pub program-never-broken : (input out : List ℕ) (es : List Event) → Printed input es out → NeverBroken false es

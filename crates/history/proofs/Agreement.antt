@@ -12,7 +12,8 @@ use Rattle.lane.specs.Layout.{Words, stateOf}
 use Rattle.lane.specs.Call.{Call, start-call, load-call, enter-call, leave-call, surface-call, cycle-call, read-call, opening-call, text-call, callNo, callAnswer, callState, Kept}
 use Rattle.lane.proofs.CallLaws.{refused-changes-nothing, answer-number, Outcome, kept as leaves-kept, never-started, accepted-leaves, kept-started, kept-in-order, start-accepted, load-accepted, enter-accepted, leave-accepted, surface-accepted, read-accepted, opening-accepted, text-accepted}
 use Rattle.lane.proofs.CycleLaws.{cycle-accepted, cycle-runs}
-use Rattle.history.specs.Book.{Book, begun, holding, taken, booked}
+use Rattle.history.specs.Book.{Book, holding, taken, booked}
+use Rattle.history.specs.Begins.{Begins, from-empty}
 use Rattle.history.specs.Claims.{InOrder, Kind, begins, loads, surfaces, runs, other, kindOf, CycleClaims}
 use Rattle.history.specs.History.{Wished}
 use Rattle.history.proofs.Books.{put-in, take-out}
@@ -38,9 +39,9 @@ in-order s b h = subst InOrder (h .same) (good-order (h .good))
     good-order (empty e f) i j p q = let q′ : j < 0 = rw f at q in absurd (omega arith)
     good-order (kept k) i j p q = kept-in-order s k i j p q
 
--- "It begins with no carrier and with the surface, end and limit of the empty lane first handed in."
-pub empty-agrees : (l : Words) → stateOf l .count ≡ 0 → Agree (stateOf l) (begun l)
-empty-agrees l e =
+-- however a list begins
+pub begins-agree : {l : Words} {b : Book} → Begins l b → Agree (stateOf l) b
+begins-agree (from-empty l e) =
     let none : stateOf l .carriers ≡ [] = rw e refl in
     record { same = ap (λ cs. record { road = stateOf l .road; tables = stateOf l .tables; carriers = cs }) none; good = empty e none }
 

@@ -19,11 +19,12 @@ use Rattle.lane.proofs.Newcomers.{Newcomer}
 use Rattle.lane.proofs.EntryLaws.{entry-refused, alone-enters}
 use Rattle.lane.proofs.CallLaws.{refused-changes-nothing, Outcome, kept, never-started, accepted-leaves, kept-started, empty-starts, idle-loads, load-finds-nobody, unsound-next-stuck}
 use Rattle.lane.proofs.TableLaws.{text-brings, brought-text}
-use Rattle.history.specs.Book.{Book, begun}
+use Rattle.history.specs.Book.{Book}
+use Rattle.history.specs.Begins.{Begins}
 use Rattle.history.specs.Claims.{Kind, begins, loads, surfaces, runs, other, kindOf}
 use Rattle.history.specs.History.{Event, bookOn, Ran, Chain, chain-end, chain-next, isStart, isLoad, NoneOf, laneAfter}
 use Rattle.history.specs.Beginnings.{isAccepted, FirstStart, LoadsAnswered, LoadedTextServes, StuckForGood, EntersAlone, Beginnings}
-use Rattle.history.proofs.Agreement.{Agree, counted, empty-agrees}
+use Rattle.history.proofs.Agreement.{Agree, counted, begins-agree}
 use Rattle.history.proofs.History.{ran-gives, agrees-after}
 use Rattle.history.proofs.Rows.{Ground, groundOf, groundAfter, accepted-ground, chain-loaded-rows-serve}
 use Rattle.history.proofs.Events.{split, agree-at, number-at}
@@ -88,14 +89,14 @@ stuck-after {l} b a (chain-next {e = e} g w r) h =
     stuck-after _ (agrees-after b a (chain-next g w chain-end)) r
     (subst Stuck (sym (g .state)) (still-stuck (e .call) (stateOf l) (counted (a .good)) h))
 
-module _ {l d : Words} {es : List Event} (none : stateOf l .count ≡ 0) (c : Chain l es d) where
+module _ {l d : Words} {b : Book} {es : List Event} (how : Begins l b) (c : Chain l es d) where
   chain-first-start : FirstStart l es
   chain-first-start before start later road first is from refused is-start =
       number-at c before start later is (start-call road first) is-start
       ∙ ap (λ (m : Words). callNo (start-call road first) (stateOf m)) (unmoved (split c before start later is .0) refused ∙ from)
       ∙ empty-starts road first
 
-  chain-loads : LoadsAnswered l es
+  chain-loads : LoadsAnswered l b es
   chain-loads before load later text is is-load = (idle, of-rows, of-started)
     where
       s : State
@@ -114,9 +115,9 @@ module _ {l d : Words} {es : List Event} (none : stateOf l .count ≡ 0) (c : Ch
       no-carriers [] e = refl
       no-carriers (k ∷ cs) e = absurd (omega arith)
 
-      of-started : s .started ≡ true → load .answer .number ≡ 0 → bookOn (begun l) before .carriers ≡ []
+      of-started : s .started ≡ true → load .answer .number ≡ 0 → bookOn b before .carriers ≡ []
       of-started e z =
-          let a = agree-at c before load later is none in
+          let a = agree-at c before load later is how in
           let nobody = load-finds-nobody s text e (sym number ∙ z) in
           sym (ap (λ (b : Book). b .carriers) (a .same)) ∙ no-carriers (s .carriers) (sym (counted (a .good)) ∙ nobody)
 
@@ -130,23 +131,23 @@ module _ {l d : Words} {es : List Event} (none : stateOf l .count ≡ 0) (c : Ch
 
   chain-stuck : StuckForGood l es
   chain-stuck started rows before e later is asked =
-      let stuck = stuck-after (begun l) (empty-agrees l none) (split c before e later is .0) (record { started = started; rows = rows }) in
+      let stuck = stuck-after b (begins-agree how) (split c before e later is .0) (record { started = started; rows = rows }) in
       number-at c before e later is (e .call) refl ∙ stuck-number (kindOf (e .call)) _ stuck asked
 
-  chain-alone : EntersAlone l es
+  chain-alone : EntersAlone b es
   chain-alone before enter later k is is-enter passes nobody least most front slow short rate-least rate-most =
-      let a = agree-at c before enter later is none in
+      let a = agree-at c before enter later is how in
       let number = number-at c before enter later is (enter-call k) is-enter in
-      let own : Newcomer (bookOn (begun l) before .road) k =
+      let own : Newcomer (bookOn b before .road) k =
       record { number-least = least; number-most = most; front-before-end = front; slow = slow; short = short; rate-least = rate-least; rate-most = rate-most } in
       number
       ∙ enters-alone (stateOf (laneAfter l before)) k (counted (a .good)) (ap (λ (b : Book). b .carriers) (a .same) ∙ nobody)
       (subst (λ (b : Book). Newcomer (b .road) k) (sym (a .same)) own) (λ z. passes (number ∙ z))
 
-  pub chain-beginnings : Beginnings l es
+  pub chain-beginnings : Beginnings l b es
   chain-beginnings =
       record { first-start = chain-first-start; loads = chain-loads; served = chain-loaded-text-serves; stuck = chain-stuck; alone = chain-alone }
 
--- in every list of calls from an empty lane
-pub beginnings : (l : Words) → stateOf l .count ≡ 0 → (es : List Event) (d : Words) → Ran l es d → Beginnings l es
-beginnings l none es d r = chain-beginnings none (ran-gives r)
+-- in every list of calls, however it begins
+pub beginnings : (l : Words) (b : Book) → Begins l b → (es : List Event) (d : Words) → Ran l es d → Beginnings l b es
+beginnings l b how es d r = chain-beginnings how (ran-gives r)

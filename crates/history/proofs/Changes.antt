@@ -12,6 +12,7 @@ use Rattle.lane.specs.Rules.{broken}
 use Rattle.lane.specs.Call.{Call, surface-call, Answer, callNo}
 use Rattle.lane.proofs.SurfaceLaws.{other-words-stay, surface-in-force, surface-answers, surface-standing}
 use Rattle.history.specs.Book.{Book}
+use Rattle.history.specs.Begins.{Begins}
 use Rattle.history.specs.Claims.{carrierAt, SafeOn}
 use Rattle.history.specs.History.{Event, laneAfter, Did, Ran, then, Chain, SurfaceExactly, SurfaceChanges}
 use Rattle.history.proofs.CycleRuns.{bookOf}
@@ -37,19 +38,19 @@ exactly s code passes = by-rules (broken s) refl
         let told = surface-answers s code in
         (told .1 e, told .2 e, told .3 e, λ same. ap (λ (n : ℕ). callNo (surface-call n) s) same ∙ surface-in-force s e, surface-standing s code e)
 
-chain-surface-exactly : {l d : Words} {es : List Event} → stateOf l .count ≡ 0 → Chain l es d → SurfaceExactly l es
-chain-surface-exactly {l} none c before change later code is is-change passes =
+chain-surface-exactly : {l d : Words} {b : Book} {es : List Event} → Begins l b → Chain l es d → SurfaceExactly b es
+chain-surface-exactly {l} how c before change later code is is-change passes =
     let s = stateOf (laneAfter l before) in
     let number = number-at c before change later is (surface-call code) is-change in
-    subst (λ (b : Book). Exactly b code (change .answer .number)) (agree-at c before change later is none .same)
+    subst (λ (b : Book). Exactly b code (change .answer .number)) (agree-at c before change later is how .same)
     (subst (Exactly (bookOf s) code) (sym number) (exactly s code (λ z. passes (number ∙ z))))
 
-pub chain-surface-changes : {l d : Words} {es : List Event} → stateOf l .count ≡ 0 → Chain l es d → SurfaceChanges l es
-chain-surface-changes none c = (chain-surface-exactly none c, chain-surface-serves c)
+pub chain-surface-changes : {l d : Words} {b : Book} {es : List Event} → Begins l b → Chain l es d → SurfaceChanges l b es
+chain-surface-changes how c = (chain-surface-exactly how c, chain-surface-serves c)
 
--- in every list of calls from an empty lane
-pub surface-changes : (l : Words) → stateOf l .count ≡ 0 → (es : List Event) (d : Words) → Ran l es d → SurfaceChanges l es
-surface-changes l none es d r = chain-surface-changes none (ran-gives r)
+-- in every list of calls, however it begins
+pub surface-changes : (l : Words) (b : Book) → Begins l b → (es : List Event) (d : Words) → Ran l es d → SurfaceChanges l b es
+surface-changes l b how es d r = chain-surface-changes how (ran-gives r)
 
 -- ---- its words, by the contract of `lane::surface` itself
 

@@ -25,7 +25,8 @@ use Rattle.lane.specs.Layout.{Words, stateOf}
 use Rattle.lane.specs.Calls.{none}
 use Rattle.lane.specs.Call.{Call, start-call, cycle-call, read-call, Answer, callNo, Kept}
 use Rattle.lane.proofs.CallLaws.{answer-number, kept-not-21}
-use Rattle.history.specs.Book.{Seen, Book, begun, trimmedIn, guaranteedIn, drivenIn, booked}
+use Rattle.history.specs.Book.{Seen, Book, trimmedIn, guaranteedIn, drivenIn, booked}
+use Rattle.history.specs.Begins.{Begins}
 use Rattle.history.specs.Claims.{Kind, begins, loads, surfaces, runs, other, kindOf, carrierAt, placeAt, restsLevelOrCrossed, Claims}
 use Rattle.history.specs.History.{Event, callsIn, seen, bookOn, Ran, Typed, AllTyped, startsLane, Chain, chain-end, chain-next, Throughout, SurfaceChanges, NeverBroken}
 use Rattle.history.specs.Openings.{Openings}
@@ -187,14 +188,14 @@ trimmed-by-the-row b c w z e = rw e refl
 
 -- ---- of lists
 
--- for every list of calls from an empty lane, cycles with any sixty-four wishes among them, there is a history, and what is claimed holds
--- throughout it, and of its changes of surface
-pub every-list-claimed : (l : Words) → stateOf l .count ≡ 0 → (xs : List Call)
+-- for every list of calls, however it begins, cycles with any sixty-four wishes among them, there is a history, and what is claimed holds
+-- throughout it, and of its changes of surface and its openings
+pub every-list-claimed : (l : Words) (b : Book) → Begins l b → (xs : List Call)
     → ((i count : ℕ) (ws : List Wish) → getD xs i (read-call 0) ≡ cycle-call count ws → length ws ≡ 64)
-    → (es : List Event) × (d : Words) × Ran l es d × (callsIn es ≡ xs) × Throughout (begun l) es × SurfaceChanges l es × Openings l es
-every-list-claimed l e xs sixty-four =
+    → (es : List Event) × (d : Words) × Ran l es d × (callsIn es ≡ xs) × Throughout b es × SurfaceChanges l b es × Openings l b es
+every-list-claimed l b how xs sixty-four =
     let h = every-list l xs (all-typed xs sixty-four) in
-    (h .events, h .last, h .ran, h .calls, history l e (h .events) (h .last) (h .ran), surface-changes l e (h .events) (h .last) (h .ran), openings l e (h .events) (h .last) (h .ran))
+    (h .events, h .last, h .ran, h .calls, history l b how (h .events) (h .last) (h .ran), surface-changes l b how (h .events) (h .last) (h .ran), openings l b how (h .events) (h .last) (h .ran))
   where
     typed : {x : Call} (k : Kind x) → ((count : ℕ) (ws : List Wish) → x ≡ cycle-call count ws → length ws ≡ 64) → Typed k
     typed (begins road first) h = tt
@@ -219,6 +220,10 @@ lasting {l} started h (chain-next {e = e} g w r) =
 -- from any lane at all: once a start was accepted no call gives 21
 pub chain-never-broken : {l d : Words} {es : List Event} → Chain l es d → NeverBroken false es
 chain-never-broken c = lasting false (λ q. absurd (true≢false (sym q))) c
+
+-- from a lane that breaks no rule: no call gives 21
+pub chain-kept-never-broken : {l d : Words} {es : List Event} → Kept (stateOf l) → Chain l es d → NeverBroken true es
+chain-kept-never-broken k c = lasting true (λ q. k) c
 
 pub never-broken : (l : Words) (es : List Event) (d : Words) → Ran l es d → NeverBroken false es
 never-broken l es d r = chain-never-broken (ran-gives r)

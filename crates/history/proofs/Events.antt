@@ -4,9 +4,10 @@ use mathlib.Core.List.{List, _∷_, _++_}
 use Rattle.lane.specs.Layout.{Words, stateOf}
 use Rattle.lane.specs.Call.{Call, Answer, callNo, callAnswer}
 use Rattle.lane.proofs.CallLaws.{answer-number}
-use Rattle.history.specs.Book.{begun}
+use Rattle.history.specs.Book.{Book}
+use Rattle.history.specs.Begins.{Begins}
 use Rattle.history.specs.History.{Event, bookOn, laneAfter, Chain, chain-next}
-use Rattle.history.proofs.Agreement.{Agree, empty-agrees}
+use Rattle.history.proofs.Agreement.{Agree, begins-agree}
 use Rattle.history.proofs.History.{agrees-after}
 use Rattle.history.proofs.Rows.{parts}
 
@@ -14,8 +15,8 @@ module _ {l d : Words} {es : List Event} (c : Chain l es d) (before : List Event
   pub split : Chain l before (laneAfter l before) × Chain (laneAfter l before) (e ∷ later) d
   split = parts before (subst (λ (es : List Event). Chain l es d) is c)
 
-  pub agree-at : stateOf l .count ≡ 0 → Agree (stateOf (laneAfter l before)) (bookOn (begun l) before)
-  agree-at none = agrees-after (begun l) (empty-agrees l none) (split .0)
+  pub agree-at : {b : Book} → Begins l b → Agree (stateOf (laneAfter l before)) (bookOn b before)
+  agree-at {b} how = agrees-after b (begins-agree how) (split .0)
 
   pub answer-at : (x : Call) → e .call ≡ x → e .answer ≡ callAnswer x (stateOf (laneAfter l before))
   answer-at x same = first (split .1) ∙ ap (λ (y : Call). callAnswer y (stateOf (laneAfter l before))) same

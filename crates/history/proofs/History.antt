@@ -6,10 +6,11 @@ use mathlib.Core.Path.{_≡_, sym, ap, subst}
 use mathlib.Core.List.{List}
 use Rattle.lane.specs.Layout.{Words, stateOf}
 use Rattle.lane.specs.Call.{Call, start-call, load-call, enter-call, leave-call, surface-call, cycle-call, read-call, opening-call, text-call, Answer, Gives}
-use Rattle.history.specs.Book.{Book, begun, booked}
+use Rattle.history.specs.Book.{Book, booked}
+use Rattle.history.specs.Begins.{Begins}
 use Rattle.history.specs.Claims.{kindOf, Claims}
 use Rattle.history.specs.History.{Event, seen, bookOn, Did, Ran, none-yet, then, Wished, Chain, chain-end, chain-next, Throughout}
-use Rattle.history.proofs.Agreement.{Agree, in-order, empty-agrees, step}
+use Rattle.history.proofs.Agreement.{Agree, in-order, begins-agree, step}
 
 -- ---- a contract says what the call gives
 
@@ -69,10 +70,10 @@ throughout {l} b h (chain-next {e = e} g w r) =
     (c .1, throughout (booked (seen e) b) (c .0) r)
 
 -- the theorem, of calls that give what the lane's do
-pub chain-history : (l : Words) → stateOf l .count ≡ 0 → (es : List Event) (d : Words) → Chain l es d → Throughout (begun l) es
-chain-history l e es d r = throughout (begun l) (empty-agrees l e) r
+pub chain-history : (l : Words) (b : Book) → Begins l b → (es : List Event) (d : Words) → Chain l es d → Throughout b es
+chain-history l b how es d r = throughout b (begins-agree how) r
 
 -- THE THEOREM: "For every list of calls from an empty lane, started or not, refused calls included, each working on the lane that the
--- last one left", whatever the empty lane's other words are
-pub history : (l : Words) → stateOf l .count ≡ 0 → (es : List Event) (d : Words) → Ran l es d → Throughout (begun l) es
-history l e es d r = chain-history l e es d (ran-gives r)
+-- last one left", whatever the empty lane's other words are: how a list begins is `Begins`
+pub history : (l : Words) (b : Book) → Begins l b → (es : List Event) (d : Words) → Ran l es d → Throughout b es
+history l b how es d r = chain-history l b how es d (ran-gives r)

@@ -17,6 +17,7 @@ use Rattle.lane.specs.Call.{enter-call, opening-call, Answer, callNo, callAnswe
 use Rattle.lane.proofs.CallLaws.{answer-number}
 use Rattle.lane.proofs.OpeningLaws.{opening-in-order, gap-ahead-of-all, gap-behind, gap-there, opening-numbers, opening-ends, opening-entry}
 use Rattle.history.specs.Book.{Book}
+use Rattle.history.specs.Begins.{Begins}
 use Rattle.history.specs.Claims.{carrierAt}
 use Rattle.history.specs.History.{Event, laneAfter, Ran, Chain}
 use Rattle.history.specs.Openings.{GapAt, Between, FitsAt, numberAsked, OpeningsNumbered, OpeningsRefused, OpeningsExact, OpeningsEnter, Openings}
@@ -83,33 +84,33 @@ enters g s c count-is z least most new room =
 
 -- ---- along a list
 
-module _ {l d : Words} {es : List Event} (none : stateOf l .count ≡ 0) (c : Chain l es d) where
-  chain-numbered : OpeningsNumbered l es
+module _ {l d : Words} {b : Book} {es : List Event} (how : Begins l b) (c : Chain l es d) where
+  chain-numbered : OpeningsNumbered b es
   chain-numbered before ask later g n is is-ask passes =
       let number = number-at c before ask later is (opening-call g n) is-ask in
-      number ∙ numbered-so g (stateOf (laneAfter l before)) n (λ z. passes (number ∙ z)) ∙ ap (numberAsked g n) (agree-at c before ask later is none .same)
+      number ∙ numbered-so g (stateOf (laneAfter l before)) n (λ z. passes (number ∙ z)) ∙ ap (numberAsked g n) (agree-at c before ask later is how .same)
 
-  chain-refused : OpeningsRefused l es
+  chain-refused : OpeningsRefused es
   chain-refused before ask later g n is is-ask refused =
       let x = opening-call g n in
       rw (answer-at c before ask later is x is-ask)
       (opening-ends (stateOf (laneAfter l before)) g n .2 (λ z. refused (number-at c before ask later is x is-ask ∙ z)))
 
-  chain-exact : OpeningsExact l es
+  chain-exact : OpeningsExact b es
   chain-exact before ask later g n is is-ask asked =
       let x = opening-call g n in
       let s = stateOf (laneAfter l before) in
       let accepted = sym (number-at c before ask later is x is-ask) ∙ asked in
-      subst (Exact g n (ask .answer .span)) (agree-at c before ask later is none .same)
+      subst (Exact g n (ask .answer .span)) (agree-at c before ask later is how .same)
       (subst (λ (a : Answer). Exact g n (a .span) (bookOf s)) (sym (answer-at c before ask later is x is-ask)) (exact g s n accepted))
 
-  chain-enter : OpeningsEnter l es
+  chain-enter : OpeningsEnter l b es
   chain-enter before ask between enter later g k is is-ask asked same is-enter =
       let s = stateOf (laneAfter l before) in
       let rest = between ++ (enter ∷ later) in
       let x = opening-call g (record { speed = k .speed; length = k .length; rate = k .rate }) in
       let then = answer-at (after c before ask rest is) between enter later refl (enter-call k) is-enter ∙ ap (callAnswer (enter-call k)) same in
-      let agree = agree-at c before ask rest is none in
+      let agree = agree-at c before ask rest is how in
       let number : enter .answer .number ≡ callNo (enter-call k) s = ap (λ (a : Answer). a .number) then ∙ answer-number (enter-call k) s in
       let place : enter .answer .place ≡ callAnswer (enter-call k) s .place = ap (λ (a : Answer). a .place) then in
       let span : ask .answer .span ≡ callAnswer x s .span = ap (λ (a : Answer). a .span) (answer-at c before ask rest is x is-ask) in
@@ -117,9 +118,9 @@ module _ {l d : Words} {es : List Event} (none : stateOf l .count ≡ 0) (c : Ch
       subst (λ (b : Book). Enters g k (ask .answer .span) b (enter .answer .number) (enter .answer .place)) (agree .same)
       (rw (span, number, place) (enters g s k (counted (agree .good)) accepted))
 
-  pub chain-openings : Openings l es
+  pub chain-openings : Openings l b es
   chain-openings = (chain-numbered, chain-refused, chain-exact, chain-enter)
 
--- in every list of calls from an empty lane
-pub openings : (l : Words) → stateOf l .count ≡ 0 → (es : List Event) (d : Words) → Ran l es d → Openings l es
-openings l none es d r = chain-openings none (ran-gives r)
+-- in every list of calls, however it begins
+pub openings : (l : Words) (b : Book) → Begins l b → (es : List Event) (d : Words) → Ran l es d → Openings l b es
+openings l b how es d r = chain-openings how (ran-gives r)

@@ -13,7 +13,7 @@ use Rattle.lane.specs.Layout.{Words, stateOf, emptyWords}
 use Rattle.lane.specs.Rules.{roadNo}
 use Rattle.lane.specs.Table.{tableText, tableIn, badTable}
 use Rattle.lane.specs.Call.{start-call, load-call, enter-call}
-use Rattle.history.specs.Book.{begun}
+use Rattle.history.specs.Book.{Book}
 use Rattle.history.specs.Claims.{kindOf}
 use Rattle.history.specs.History.{Event, bookOn, isStart, isLoad, startsLane, loadsRows, NoneOf, laneAfter}
 
@@ -33,15 +33,15 @@ FirstStart l es =
 -- document 02, T-01: "Loading gives 21 first, but a lane never started counts as empty and sound there, whatever it holds. Turned away: 31 ..; 32
 -- carriers are on the lane": on a lane never started a load is answered by its text alone, and that of eight sound rows is accepted; on a started one
 -- an accepted load found nobody in the book
-abbrev pub LoadsAnswered : Words → List Event → Type 0
-LoadsAnswered l es =
+abbrev pub LoadsAnswered : Words → Book → List Event → Type 0
+LoadsAnswered l b es =
     (before : List Event) (load : Event) (later : List Event) (text : List ℕ)
     → es ≡ before ++ (load ∷ later)
     → load .call ≡ load-call text
     → let s = stateOf (laneAfter l before) in
     (s .started ≡ false → load .answer .number ≡ cond (badTable (tableIn text)) 31 0)
     × (s .started ≡ false → (rs : List Row) → length rs ≡ 8 → unsound rs ≡ false → text ≡ tableText rs → load .answer .number ≡ 0)
-    × (s .started ≡ true → load .answer .number ≡ 0 → bookOn (begun l) before .carriers ≡ [])
+    × (s .started ≡ true → load .answer .number ≡ 0 → bookOn b before .carriers ≡ [])
 
 -- T-01: "They load eight rows of three numbers (b, B, A), given as text of 24 lines"; "From the next start on, the codes mean the loaded rows": after
 -- an accepted load, a list with no other, an accepted start and a list with no other, the text loaded is that of the rows in force, and they are the
@@ -67,20 +67,20 @@ StuckForGood l es =
 
 -- "Enter (number, position, speed): 21, 4, 5, 6, 22, 23, 25, 26."; T-03: 33 "after 6"; T-06: 35 "after 33": on a lane that 21 passes, with nobody in
 -- the book, every carrier whose own values are in range is let in, wherever its tail lies
-abbrev pub EntersAlone : Words → List Event → Type 0
-EntersAlone l es =
+abbrev pub EntersAlone : Book → List Event → Type 0
+EntersAlone at-first es =
     (before : List Event) (enter : Event) (later : List Event) (c : Carrier)
     → es ≡ before ++ (enter ∷ later)
     → enter .call ≡ enter-call c → ¬ (enter .answer .number ≡ 21)
-    → let b = bookOn (begun l) before in
+    → let b = bookOn at-first before in
     b .carriers ≡ []
     → 1 ≤ c .number → c .number ≤ 65535 → c .position < b .road .end → c .speed ≤ b .road .limit → c .length ≤ 65535 → 1 ≤ c .rate → c .rate ≤ 255
     → enter .answer .number ≡ 0
 
 -- all of a list
-pub record Beginnings (l : Words) (es : List Event) : Type 0 where
+pub record Beginnings (l : Words) (b : Book) (es : List Event) : Type 0 where
   pub first-start : FirstStart l es
-  pub loads : LoadsAnswered l es
+  pub loads : LoadsAnswered l b es
   pub served : LoadedTextServes es
   pub stuck : StuckForGood l es
-  pub alone : EntersAlone l es
+  pub alone : EntersAlone b es

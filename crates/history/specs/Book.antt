@@ -33,8 +33,7 @@ pub record Book : Type 0 where
   pub tables : Tables
   pub carriers : List Carrier
 
--- "It begins with no carrier and with the surface, end and limit of the empty lane first handed in."; T-01: with the rows "at first as the empty
--- lane has them"
+-- the book that goes with an empty lane; T-01: with the rows "at first as the empty lane has them"
 abbrev pub begun : Words → Book
 begun l = record { road = stateOf l .road; tables = stateOf l .tables; carriers = [] }
 

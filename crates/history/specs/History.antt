@@ -27,7 +27,7 @@ use Rattle.lane.proofs.cycle.Reads as cycle-reads
 use Rattle.lane.proofs.read.Reads as read-reads
 use Rattle.lane.proofs.find_opening.Reads as opening-reads
 use Rattle.lane.proofs.lane_text.Reads as text-reads
-use Rattle.history.specs.Book.{Seen, Book, begun, booked}
+use Rattle.history.specs.Book.{Seen, Book, booked}
 use Rattle.history.specs.Claims.{Kind, begins, loads, surfaces, runs, other, kindOf, carrierAt, SafeOn, Claims}
 
 -- a call, what it answered and the lane that it left
@@ -195,12 +195,12 @@ LoadedRowsServe es =
 -- T-05: "The change is accepted if the whole lane is safe under the new row and refused otherwise.", and "34 .., after 21 and 1": on a lane that 21
 -- passes a change to a code above 7 gives 1, to another 0 where the book's carriers are all safe, 34 where one is not; and so 0 for the code that the
 -- book has already, and 0 where nobody behind the foremost moves
-abbrev pub SurfaceExactly : Words → List Event → Type 0
-SurfaceExactly l es =
+abbrev pub SurfaceExactly : Book → List Event → Type 0
+SurfaceExactly at-first es =
     (before : List Event) (change : Event) (later : List Event) (code : ℕ)
     → es ≡ before ++ (change ∷ later)
     → change .call ≡ surface-call code → ¬ (change .answer .number ≡ 21)
-    → let b = bookOn (begun l) before in
+    → let b = bookOn at-first before in
     (lastSurface < code → change .answer .number ≡ 1)
     × (code ≤ lastSurface → ((i : ℕ) → suc i < length (b .carriers) → SafeOn b code i) → change .answer .number ≡ 0)
     × (code ≤ lastSurface → (i : ℕ) → suc i < length (b .carriers) → ¬ (SafeOn b code i) → change .answer .number ≡ 34)
@@ -218,8 +218,8 @@ SurfaceServes l es =
     (s .road .surface ≡ code) × (rowIn (s .tables) (s .road) ≡ rowOf (stateOf (laneAfter l before) .tables .inForce) code)
 
 -- both of a list
-abbrev pub SurfaceChanges : Words → List Event → Type 0
-SurfaceChanges l es = SurfaceExactly l es × SurfaceServes l es
+abbrev pub SurfaceChanges : Words → Book → List Event → Type 0
+SurfaceChanges l b es = SurfaceExactly b es × SurfaceServes l es
 
 -- "21 never started, or the lane handed in breaks a rule of this paper": once a start was accepted, no call gives it
 abbrev pub NeverBroken : (started : Bool) → List Event → Type 0

@@ -1,4 +1,5 @@
 pub mod Book
+pub mod Begins
 pub mod Claims
 pub mod History
 pub mod Openings

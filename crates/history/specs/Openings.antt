@@ -15,7 +15,7 @@ use Rattle.lane.specs.Layout.{Words, stateOf}
 use Rattle.lane.specs.Safety.{anyOf, numbered}
 use Rattle.lane.specs.Opening.{Span}
 use Rattle.lane.specs.Call.{enter-call, opening-call}
-use Rattle.history.specs.Book.{Book, begun}
+use Rattle.history.specs.Book.{Book}
 use Rattle.history.specs.Claims.{carrierAt}
 use Rattle.history.specs.History.{Event, bookOn, laneAfter}
 
@@ -52,16 +52,16 @@ numberAsked (Behind number) n b =
     cond (ltb number 1 || ltb 65535 number) 4 (cond (anyOf (numbered number) (b .carriers)) (valuesAsked n b) 24)
 numberAsked AheadOfAll n b = valuesAsked n b
 
-abbrev pub OpeningsNumbered : Words → List Event → Type 0
-OpeningsNumbered l es =
+abbrev pub OpeningsNumbered : Book → List Event → Type 0
+OpeningsNumbered b es =
     (before : List Event) (ask : Event) (later : List Event) (g : Gap) (n : Newcomer)
     → es ≡ before ++ (ask ∷ later)
     → ask .call ≡ opening-call g n → ¬ (ask .answer .number ≡ 21)
-    → ask .answer .number ≡ numberAsked g n (bookOn (begun l) before)
+    → ask .answer .number ≡ numberAsked g n (bookOn b before)
 
 -- "A refusal holds its number", and no position
-abbrev pub OpeningsRefused : Words → List Event → Type 0
-OpeningsRefused l es =
+abbrev pub OpeningsRefused : List Event → Type 0
+OpeningsRefused es =
     (before : List Event) (ask : Event) (later : List Event) (g : Gap) (n : Newcomer)
     → es ≡ before ++ (ask ∷ later)
     → ask .call ≡ opening-call g n → ¬ (ask .answer .number ≡ 0)
@@ -69,12 +69,12 @@ OpeningsRefused l es =
 
 -- an accepted opening answers exactly those positions, by the book, a full one too; where there is one the lowest is at most the highest, and where
 -- there is none both are 0
-abbrev pub OpeningsExact : Words → List Event → Type 0
-OpeningsExact l es =
+abbrev pub OpeningsExact : Book → List Event → Type 0
+OpeningsExact at-first es =
     (before : List Event) (ask : Event) (later : List Event) (g : Gap) (n : Newcomer)
     → es ≡ before ++ (ask ∷ later)
     → ask .call ≡ opening-call g n → ask .answer .number ≡ 0
-    → let b = bookOn (begun l) before in
+    → let b = bookOn at-first before in
     let a = ask .answer .span in
     ((position : ℕ) → Between a position → (place : ℕ) × GapAt g b place × FitsAt b n position place)
     × ((position place : ℕ) → GapAt g b place → FitsAt b n position place → Between a position)
@@ -84,18 +84,18 @@ OpeningsExact l es =
 -- "Each position between the two would be admitted by those checks.": as long as the lane's state is as when it was asked, an entry of those values,
 -- whose number no carrier of the book has and with fewer than 64 there, is let in right behind the one named, or ahead of all, exactly where its
 -- position is between the two
-abbrev pub OpeningsEnter : Words → List Event → Type 0
-OpeningsEnter l es =
+abbrev pub OpeningsEnter : Words → Book → List Event → Type 0
+OpeningsEnter l at-first es =
     (before : List Event) (ask : Event) (between : List Event) (enter : Event) (later : List Event) (g : Gap) (c : Carrier)
     → es ≡ before ++ (ask ∷ (between ++ (enter ∷ later)))
     → ask .call ≡ opening-call g (record { speed = c .speed; length = c .length; rate = c .rate }) → ask .answer .number ≡ 0
     → stateOf (laneAfter (ask .left) between) ≡ stateOf (laneAfter l before)
     → enter .call ≡ enter-call c
-    → let b = bookOn (begun l) before in
+    → let b = bookOn at-first before in
     1 ≤ c .number → c .number ≤ 65535 → ((i : ℕ) → i < length (b .carriers) → ¬ (carrierAt b i .number ≡ c .number)) → length (b .carriers) < 64
     → (Between (ask .answer .span) (c .position) → (enter .answer .number ≡ 0) × GapAt g b (enter .answer .place))
     × (enter .answer .number ≡ 0 → GapAt g b (enter .answer .place) → Between (ask .answer .span) (c .position))
 
 -- all of a list
-abbrev pub Openings : Words → List Event → Type 0
-Openings l es = OpeningsNumbered l es × OpeningsRefused l es × OpeningsExact l es × OpeningsEnter l es
+abbrev pub Openings : Words → Book → List Event → Type 0
+Openings l b es = OpeningsNumbered b es × OpeningsRefused es × OpeningsExact b es × OpeningsEnter l b es

@@ -22,7 +22,8 @@ use Rattle.lane.specs.Calls.{ifAccepted, readyNo}
 use Rattle.lane.specs.Call.{Call, start-call, load-call, enter-call, leave-call, surface-call, cycle-call, read-call, opening-call, text-call, Answer, bare, entered, cycled, readOut, opening, listed, callAnswer}
 use Rattle.lane.specs.Given.{wishesNo, wishesGiven, GivesWith}
 use Rattle.lane.proofs.Answerable.{gives-some, returned, read-exact}
-use Rattle.history.specs.Book.{begun}
+use Rattle.history.specs.Book.{Book, begun}
+use Rattle.history.specs.Begins.{Begins}
 use Rattle.history.specs.History.{Event, callsIn, Throughout, SurfaceChanges, NeverBroken}
 use Rattle.history.specs.Openings.{Openings}
 use Rattle.history.proofs.Answered.{of-lane, of-both, lent, left, gives-as, reads-as, lends, lends-both, Exact, surface-puts}
@@ -161,13 +162,13 @@ every-host-list l (x ∷ xs) =
     let h = every-host-list (d .after) xs in
     record { events = eventsMade x (d .answer) (d .after) ++ h .events; last = h .last; ran = call (d .answer) (d .did) (h .ran) }
 
--- for every list of exported calls from an empty lane there is a history: its calls are those that the exported ones are, what is claimed holds
+-- for every list of exported calls, however it begins, there is a history: its calls are those that the exported ones are, what is claimed holds
 -- throughout, of changes of surface and of openings, and no call gives 21 after a start
-pub every-host-list-claimed : (l : Words) → stateOf l .count ≡ 0 → (xs : List HostCall)
-    → (h : HostHistoryOf l xs) × (callsIn (h .events) ≡ allMade xs) × Throughout (begun l) (h .events) × SurfaceChanges l (h .events) × Openings l (h .events) × NeverBroken false (h .events)
-every-host-list-claimed l e xs =
+pub every-host-list-claimed : (l : Words) (b : Book) → Begins l b → (xs : List HostCall)
+    → (h : HostHistoryOf l xs) × (callsIn (h .events) ≡ allMade xs) × Throughout b (h .events) × SurfaceChanges l b (h .events) × Openings l b (h .events) × NeverBroken false (h .events)
+every-host-list-claimed l b how xs =
     let h = every-host-list l xs in
-    (h, host-calls (h .ran), host-history l e xs (h .events) (h .last) (h .ran), host-surface-changes l e xs (h .events) (h .last) (h .ran), host-openings l e xs (h .events) (h .last) (h .ran), host-never-broken (h .ran))
+    (h, host-calls (h .ran), host-history l b how xs (h .events) (h .last) (h .ran), host-surface-changes l b how xs (h .events) (h .last) (h .ran), host-openings l b how xs (h .events) (h .last) (h .ran), host-never-broken (h .ran))
 
 -- and from the lane that `rondavitse_empty` gives
 pub every-host-list-from-empty : (xs : List HostCall) → Emptied emptyWords × ((h : HostHistoryOf emptyWords xs) × Throughout (begun emptyWords) (h .events))

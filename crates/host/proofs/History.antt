@@ -11,7 +11,8 @@ use Rattle.lane.specs.Layout.{Words, stateOf, emptyWords}
 use Rattle.lane.specs.Call.{Call, load-call, cycle-call, text-call, Answer, cycled, Gives}
 use Rattle.lane.specs.Given.{wishesNo, wishesGiven, GivesWith}
 use Rattle.lane.proofs.Laws.{wishes-enough}
-use Rattle.history.specs.Book.{begun}
+use Rattle.history.specs.Book.{Book, begun}
+use Rattle.history.specs.Begins.{Begins, from-empty}
 use Rattle.history.specs.History.{Event, callsIn, Chain, chain-end, chain-next, Throughout, LoadedRowsServe, SurfaceChanges, NeverBroken}
 use Rattle.history.specs.Openings.{Openings}
 use Rattle.history.proofs.History.{given-of, read-of, chain-history}
@@ -66,25 +67,25 @@ is-chain : {l d : Words} {xs : List HostCall} {es : List Event} → HostRan l xs
 is-chain nothing-yet = chain-end
 is-chain (call {x = x} a h r) = one-call x a h (is-chain r)
 
--- demand 3 for every list of exported calls from an empty lane
-pub host-history : (l : Words) → stateOf l .count ≡ 0 → (xs : List HostCall) (es : List Event) (d : Words) → HostRan l xs es d → Throughout (begun l) es
-host-history l e xs es d r = chain-history l e es d (is-chain r)
+-- demand 3 for every list of exported calls, however it begins
+pub host-history : (l : Words) (b : Book) → Begins l b → (xs : List HostCall) (es : List Event) (d : Words) → HostRan l xs es d → Throughout b es
+host-history l b how xs es d r = chain-history l b how es d (is-chain r)
 
 -- and from the lane that `rondavitse_empty` gives
 pub host-history-from-empty : (l : Words) → Emptied l → (xs : List HostCall) (es : List Event) (d : Words) → HostRan l xs es d → Throughout (begun emptyWords) es
-host-history-from-empty l e xs es d r = subst (λ (k : Words). Throughout (begun k) es) (e .says) (host-history l (rw (e .says) refl) xs es d r)
+host-history-from-empty l e xs es d r = subst (λ (k : Words). Throughout (begun k) es) (e .says) (host-history l (begun l) (from-empty l (rw (e .says) refl)) xs es d r)
 
 -- rows that `rondavitse_load` brought are in force from the next accepted start to the one after it
 pub host-loaded-rows-serve : (l : Words) (xs : List HostCall) (es : List Event) (d : Words) → HostRan l xs es d → LoadedRowsServe es
 host-loaded-rows-serve l xs es d r = chain-loaded-rows-serve (is-chain r)
 
 -- `rondavitse_surface`, or a block, changes the surface exactly where the book's carriers are safe on it, and it serves until another one or a start
-pub host-surface-changes : (l : Words) → stateOf l .count ≡ 0 → (xs : List HostCall) (es : List Event) (d : Words) → HostRan l xs es d → SurfaceChanges l es
-host-surface-changes l e xs es d r = chain-surface-changes e (is-chain r)
+pub host-surface-changes : (l : Words) (b : Book) → Begins l b → (xs : List HostCall) (es : List Event) (d : Words) → HostRan l xs es d → SurfaceChanges l b es
+host-surface-changes l b how xs es d r = chain-surface-changes how (is-chain r)
 
 -- `rondavitse_find_opening` answers exactly the positions at which by the book a newcomer fits, and `rondavitse_enter`, or a block, lets it in there
-pub host-openings : (l : Words) → stateOf l .count ≡ 0 → (xs : List HostCall) (es : List Event) (d : Words) → HostRan l xs es d → Openings l es
-host-openings l e xs es d r = chain-openings e (is-chain r)
+pub host-openings : (l : Words) (b : Book) → Begins l b → (xs : List HostCall) (es : List Event) (d : Words) → HostRan l xs es d → Openings l b es
+host-openings l b how xs es d r = chain-openings how (is-chain r)
 
 -- the calls of the lane are those that the exported calls are, refused or not
 pub host-calls : {l d : Words} {xs : List HostCall} {es : List Event} → HostRan l xs es d → callsIn es ≡ allMade xs
