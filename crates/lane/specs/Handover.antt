@@ -37,7 +37,7 @@ roadKeys = surfaceKey ∷ endKey ∷ limitKey ∷ cycleKey ∷ []
 abbrev pub roadNumbers : State → List ℕ
 roadNumbers s = s .road .surface ∷ s .road .end ∷ s .road .limit ∷ s .cycle ∷ []
 
-unfoldable pub roadText : State → List ℕ
+abbrev pub roadText : State → List ℕ
 roadText s = groupText roadKeys (roadNumbers s)
 
 unfoldable pub handoverText : State → List ℕ

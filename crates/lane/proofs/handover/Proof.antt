@@ -1,39 +1,67 @@
+use mathlib.Core.Path.{_≡_, refl, sym, ap₂, _∙_, subst}
+use mathlib.Core.Bool.{false}
+use Prim.Native.Nat.{_≤_}
+use native.Mathlib.Omega.{arith}
 use borrow.Author.Needs.{needs}
+use lib.ListN.{length}
+use Rattle.lane.specs.Layout.{stateOf}
+use Rattle.lane.specs.Rules.{broken}
+use Rattle.lane.specs.Handover.{handoverText, handoverNo, handoverBytes}
+use Rattle.lane.specs.Call.{handover-call, told, Answer, Gives}
+use Rattle.lane.proofs.checks.Soundness.{sound}
+use Rattle.lane.proofs.calls.Writing.{writing-broken, writing-too-long, writing-fits, writing-put}
+use Rattle.lane.proofs.calls.Answers.{gives-refused, gives-accepted}
 use Rattle.lane.proofs.handover.Statement.{statement}
 use Rattle.lane.proofs.handover.Tie as tie
-use Rattle.lane.proofs.handover.Reads as reads
-use Rattle.lane.proofs.handover.Lts as lts
-use Rattle.lane.proofs.rules.breaks_rule.Reads as breaks-rule-reads
-use Rattle.lane.proofs.transfer.put_text.Reads as put-text-reads
-use Rattle.lane.proofs.transfer.text_length.Reads as text-length-reads
 
--- src/lib.rt:296:8
+unbroken : (c : tie.Else1) → broken (stateOf (c .before .before .before .args .l .now)) ≡ false
+unbroken c = sym (c .before .breaks-rule .ensures) ∙ c .if1 .left
+
 breaks-rule-requires : tie.Need-breaks-rule-requires
 breaks-rule-requires c κs = search needs
 
--- src/lib.rt:297:9
 returns : tie.Need-returns
-returns c = ?
+unfolding handoverNo
+returns c =
+    let a = c .before .before .before .args in
+    let s = stateOf (a .l .now) in
+    let n = writing-broken s (handoverText s) (a .out .now) (sym (c .before .breaks-rule .ensures) ∙ c .if1 .taken) in
+    gives-refused (handover-call (a .out .now)) (a .l .now) 21 (sym n) (λ e. omega arith)
 
--- src/lib.rt:299:20
 text-length-requires : tie.Need-text-length-requires
-text-length-requires c κs = ?
+text-length-requires c κs = sound _ (unbroken c) .count
 
--- src/lib.rt:300:9
 returns-2 : tie.Need-returns-2
-returns-2 c = ?
+unfolding handoverNo
+returns-2 c =
+    let passed = c .before .before in
+    let a = passed .before .before .before .args in
+    let s = stateOf (a .l .now) in
+    let n = writing-too-long s (handoverText s) (a .out .now) (unbroken passed) (omega (arith, c .before .text-length .ensures, c .if2 .taken)) in
+    gives-refused (handover-call (a .out .now)) (a .l .now) 9 (sym n) (λ e. omega arith)
 
--- src/lib.rt:302:9
+-- and the text is not longer than the buffer
+fitting : (c : tie.Else2) → let a = c .before .before .before .before .before .args in length (handoverText (stateOf (a .l .now))) ≤ length (a .out .now)
+fitting c = omega (arith, c .before .text-length .ensures, c .if2 .left)
+
 put-text-requires : tie.Need-put-text-requires
-put-text-requires c κs = ?
+put-text-requires c κs = (sound _ (unbroken (c .before .before .before)) .count, fitting (c .before))
 
--- src/lib.rt:293:1
 same-length : tie.Need-same-length
 same-length c = search needs
 
--- src/lib.rt:293:1
 returns-3 : tie.Need-returns-3
-returns-3 c = ?
+unfolding handoverNo handoverBytes
+returns-3 c =
+    let put = c .before .before in
+    let fits = put .before .before in
+    let passed = fits .before .before in
+    let a = passed .before .before .before .args in
+    let s = stateOf (a .l .now) in
+    let x = handover-call (a .out .now) in
+    let bytes = put .put-text .ensures .0 ∙ writing-put s (handoverText s) (a .out .now) (fitting fits) in
+    subst (λ (t : Answer). Gives x (a .l .now) t (a .l .now)) (ap₂ (told 0) (sym (put .put-text .ensures .1)) (sym bytes))
+    (gives-accepted x (a .l .now) (a .l .now) (writing-fits s (handoverText s) (a .out .now) (unbroken passed) (fitting fits)) refl)
 
 pub handover-spec : {M : Type 1} → statement M
 handover-spec =
