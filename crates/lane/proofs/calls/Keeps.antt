@@ -6,6 +6,7 @@ use Prim.Native.Nat.{ℕ, _+_, _≤_}
 use native.Mathlib.Omega.{arith}
 use lib.IntN.{ℤ}
 use lib.ListN.{length, take}
+use Rattle.text.specs.Groups.{Got, got, missing}
 use Rattle.wish.specs.declared.Wish.{Wish}
 use Rattle.lane.specs.declared.Carrier.{Carrier}
 use Rattle.lane.specs.declared.Road.{Road}
@@ -15,7 +16,7 @@ use Rattle.lane.specs.State.{State}
 use Rattle.lane.specs.Safety.{nobody, safeFrom, laneSafe, anyOf, repeats}
 use Rattle.lane.specs.Rules.{roadNo, unlawful, pastEnd, broken}
 use Rattle.lane.specs.Wishes.{wishedUnits, drives, allMoved, remaining}
-use Rattle.lane.specs.Table.{Rows, rows, malformed, tableIn, badTable, rowsLoaded, loadNo, loadedState}
+use Rattle.lane.specs.Table.{tableIn, badTable, rowsLoaded, loadNo, loadedState}
 use Rattle.lane.specs.Calls.{withCarriers, atCycle, startNo, begunState, walk, insertAt, enterNo, enteredState, placeOf, removeAt, namedNo, leftState, cycleDrives, cycleNo, cycleCarriers, cycledState, surfaceNo, surfacedState}
 use Rattle.lane.specs.Call.{Kept}
 use Rattle.lane.proofs.lists.Passed.{passed}
@@ -129,9 +130,9 @@ load-keeps s counted started text e =
     of-started : (t b : Bool) → t ≡ true → t && b ≡ false → b ≡ false
     of-started t b e f = rw e at f
 
-    loaded-sound : (x : Rows) → badTable x ≡ false → unsound (rowsLoaded x) ≡ false
-    loaded-sound (rows rs) good = good
-    loaded-sound malformed good = absurd (true≢false good)
+    loaded-sound : (x : Got (List Row)) → badTable x ≡ false → unsound (rowsLoaded x) ≡ false
+    loaded-sound (got rs rest) good = good
+    loaded-sound missing good = absurd (true≢false good)
 
 module _ (s : State) (counted : s .count ≡ length (s .carriers)) where
   pub enter-keeps : (c : Carrier) → enterNo s c ≡ 0 → Kept (enteredState s c)

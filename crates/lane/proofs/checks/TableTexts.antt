@@ -1,161 +1,221 @@
--- A table text as it is read, line after line and row after row.
+-- Table text as groups of numbers: read again as it was written, taken for nothing else, as functions tell of it; and as a loop over its rows makes it.
 use mathlib.Core.Path.{_≡_, refl, sym, ap, _∙_}
-use mathlib.Core.Bool.{Bool, true, false, _&&_, cond, true≢false}
-use mathlib.Core.List.{List, [], _∷_, _++_, map, append-assoc, append-nil}
-use Prim.Native.Nat.{ℕ, zero, suc, _+_, _-_, _≤_, _<_}
+use mathlib.Core.Bool.{Bool, true, false, not, _&&_, _||_, cond, true≢false}
+use mathlib.Core.List.{List, [], _∷_, _++_, map, append-nil, append-assoc}
+use Prim.Native.Nat.{ℕ, zero, suc, _+_, _*_, _≤_, _<_}
 use native.Mathlib.Numerals.{add-one}
 use native.Mathlib.Omega.{arith}
-use borrow.Author.Tests.{eq-eqb, ne-eqb}
-use lib.Dec.{eqb}
-use lib.ListN.{length, take, drop, set, replicate, length-drop, length-set}
-use lib.Seq.{drop-drop, take-all, take-suc-set}
+use borrow.Author.Tests.{leb-true, leb-false, lt-ltb, le-ltb}
+use lib.Dec.{leb, ltb}
+use lib.ListN.{length, drop, length-map, length-append, drop-of-length-le}
+use lib.Seq.{drop-cons}
 use Rattle.text.specs.Ascii.{ascii}
-use Rattle.text.specs.Fields.{lineLength, fieldIn, isNumber, valueIn, FieldRead}
-use Rattle.text.specs.declared.fields.Field.{Field}
+use Rattle.text.specs.Numbers.{decimal}
+use Rattle.text.specs.Lines.{line, written}
+use Rattle.text.specs.Groups.{groupsText, Got, got, missing, andThen, whole, groupsIn}
+use Rattle.text.proofs.Laws.{decimal-at-most, length-line, length-written, place-fits, written-nothing, written-then, Put, put-both}
+use Rattle.text.proofs.GroupLaws.{Held, AllHeld, groups-again, groups-taken, got-injective, got≢missing, whole-told, whole-taken}
 use Rattle.lane.specs.declared.Row.{Row}
-use Rattle.lane.specs.Surface.{row, rowOf, soundRow, unsoundBelow, unsound}
+use Rattle.lane.specs.Surface.{row, rowOf, unsound}
 use Rattle.lane.specs.Layout.{surfaceIn}
-use Rattle.lane.specs.Table.{Rows, rows, malformed, before, numberMost, numberLine, rowLines, rowsIn, tableIn, badTable, rowsLoaded}
+use Rattle.lane.specs.Table.{numberMost, rowKeys, rowText, tableText, rowsIn, tableIn, badTable, rowsLoaded}
+use Rattle.lane.proofs.checks.Surfaces.{SoundRow, sound-at}
 
--- ---- one row
+-- ---- rows are groups of three numbers
 
--- a line of a key, as the text's reader tells of it
-line-told : (key text : List ℕ) (at : ℕ) (f : Field) → FieldRead key numberMost text at f → (k : ℕ → List ℕ → Rows)
-    → numberLine key (drop at text) k ≡ cond (f .ok) (k (f .value) (drop (f .next) text)) malformed
-unfolding numberLine
-line-told key text at f told k = by-test (isNumber (fieldIn key numberMost (drop at text))) refl
+abbrev numbersOf : Row → List ℕ
+numbersOf r = r .guaranteed ∷ r .hardest ∷ r .most ∷ []
+
+-- each of which a line holds
+abbrev pub Fits : Row → Type 0
+Fits r = (r .guaranteed ≤ numberMost) × (r .hardest ≤ numberMost) × (r .most ≤ numberMost)
+
+groups-of : (rs : List Row) → tableText rs ≡ groupsText rowKeys (map numbersOf rs)
+unfolding rowText tableText
+groups-of [] = refl
+groups-of (r ∷ rs) = ap (λ (t : List ℕ). rowText r ++ t) (groups-of rs)
+
+rows-of : (rs : List Row) → map surfaceIn (map numbersOf rs) ≡ rs
+rows-of [] = refl
+rows-of (r ∷ rs) = ap (λ (l : List Row). r ∷ l) (rows-of rs)
+
+rows-held : (rs : List Row) → ((i : ℕ) → i < length rs → Fits (rowOf rs i)) → AllHeld rowKeys (map numbersOf rs)
+unfolding rowOf
+rows-held [] h = tt
+rows-held (r ∷ rs) h = let f = h 0 (omega arith) in ((f .0, (f .1, (f .2, tt))), rows-held rs (λ i p. h (suc i) (omega arith)))
+
+row-of : (g : List ℕ) → Held rowKeys g → (numbersOf (surfaceIn g) ≡ g) × Fits (surfaceIn g)
+row-of [] h = absurd h
+row-of (b ∷ []) h = absurd (h .1)
+row-of (b ∷ B ∷ []) h = absurd (h .1 .1)
+row-of (b ∷ B ∷ A ∷ []) h = (refl, (h .0, h .1 .0, h .1 .1 .0))
+row-of (b ∷ B ∷ A ∷ n ∷ ns) h = absurd (h .1 .1 .1)
+
+groups-held : (gs : List (List ℕ)) → AllHeld rowKeys gs
+    → (map numbersOf (map surfaceIn gs) ≡ gs) × ((i : ℕ) → i < length gs → Fits (rowOf (map surfaceIn gs) i))
+unfolding rowOf
+groups-held [] h = (refl, λ i p. absurd (omega arith))
+groups-held (g ∷ gs) h =
+    let first = row-of g (h .0) in
+    let others = groups-held gs (h .1) in
+    (cc (first .0, others .0), by-place (first .1) (others .1))
   where
-    by-test : (t : Bool) → isNumber (fieldIn key numberMost (drop at text)) ≡ t
-        → cond (isNumber (fieldIn key numberMost (drop at text))) (k (valueIn (fieldIn key numberMost (drop at text))) (drop (suc (lineLength (drop at text))) (drop at text))) malformed
-        ≡ cond (f .ok) (k (f .value) (drop (f .next) text)) malformed
-    by-test true e = rw (told .ok, told .value, told .next, e) (ap (k _) (drop-drop (suc (lineLength (drop at text))) at text))
-    by-test false e = rw (told .ok, e) refl
+    by-place : Fits (surfaceIn g) → ((i : ℕ) → i < length gs → Fits (rowOf (map surfaceIn gs) i))
+        → (i : ℕ) → i < suc (length gs) → Fits (rowOf (map surfaceIn (g ∷ gs)) i)
+    by-place f k zero p = f
+    by-place f k (suc i) p = k i (omega arith)
 
-pub row-told : (text : List ℕ) (at : ℕ) (b B A : Field) → FieldRead (ascii "b=") numberMost text at b → FieldRead (ascii "B=") numberMost text (b .next) B
-    → FieldRead (ascii "A=") numberMost text (B .next) A → (k : Row → List ℕ → Rows)
-    → rowLines (drop at text) k ≡ cond (b .ok && B .ok && A .ok) (k (row (b .value) (B .value) (A .value)) (drop (A .next) text)) malformed
-unfolding rowLines
-row-told text at b B A first second third k =
-    line-told (ascii "b=") text at b first _
-    ∙ rw (line-told (ascii "B=") text (b .next) B second, line-told (ascii "A=") text (B .next) A third) (together (b .ok) (B .ok) (A .ok) _)
+-- ---- eight rows in a text
+
+pub rows-again : (rs : List Row) (rest : List ℕ) → length rs ≡ 8 → ((i : ℕ) → i < 8 → Fits (rowOf rs i)) → rowsIn (tableText rs ++ rest) ≡ got rs rest
+unfolding rowsIn
+rows-again rs rest eight h =
+    let n : length (map numbersOf rs) ≡ 8 = length-map rs numbersOf ∙ eight in
+    let again = groups-again rowKeys (map numbersOf rs) rest refl (rows-held rs (λ i p. h i (omega arith))) in
+    rw (groups-of rs, rw n at again, rows-of rs) refl
+
+pub rows-taken : (t : List ℕ) (rs : List Row) (rest : List ℕ) → rowsIn t ≡ got rs rest
+    → (t ≡ tableText rs ++ rest) × (length rs ≡ 8) × ((i : ℕ) → i < 8 → Fits (rowOf rs i))
+unfolding rowsIn
+rows-taken t rs rest e = by-groups (groupsIn rowKeys 8 t) refl e
   where
-    together : (s t u : Bool) (x : Rows) → cond s (cond t (cond u x malformed) malformed) malformed ≡ cond (s && t && u) x malformed
-    together true true u x = refl
-    together true false u x = refl
-    together false t u x = refl
+    by-groups : (x : Got (List (List ℕ))) → groupsIn rowKeys 8 t ≡ x → andThen x (λ gs u. got (map surfaceIn gs) u) ≡ got rs rest
+        → (t ≡ tableText rs ++ rest) × (length rs ≡ 8) × ((i : ℕ) → i < 8 → Fits (rowOf rs i))
+    by-groups (got gs u) q e =
+        let g = got-injective e in
+        let k = groups-taken rowKeys 8 t gs u q in
+        let rows = groups-held gs (k .2) in
+        let text : tableText (map surfaceIn gs) ≡ groupsText rowKeys gs = groups-of (map surfaceIn gs) ∙ ap (groupsText rowKeys) (rows .0) in
+        rw (sym (g .0), sym (g .1), text) (k .0, length-map gs surfaceIn ∙ k .1, λ i p. rows .1 i (omega (arith, k .1)))
+    by-groups missing q e = absurd (got≢missing (sym e))
 
--- ---- all rows
-
-before-none : (x : Rows) → before [] x ≡ x
-before-none (rows rs) = refl
-before-none malformed = refl
-
-before-both : (a b : List Row) (x : Rows) → before a (before b x) ≡ before (a ++ b) x
-before-both a b (rows rs) = ap rows (sym (append-assoc a b rs))
-before-both a b malformed = refl
-
-map-last : (table : List (List ℕ)) (w : List ℕ) → map surfaceIn (table ++ (w ∷ [])) ≡ map surfaceIn table ++ (surfaceIn w ∷ [])
-map-last [] w = refl
-map-last (v ∷ table) w = ap (λ rs. surfaceIn v ∷ rs) (map-last table w)
-
--- the first `code` rows are read, and the others are still in the text from a place on
-pub record Reading (text : List ℕ) (table : List (List ℕ)) (place code : ℕ) : Type 0 where
-  pub eight : length table ≡ 8
-  pub within : code ≤ 8
-  pub rest : tableIn text ≡ before (map surfaceIn (take code table)) (rowsIn (8 - code) (drop place text))
-
-pub reading-start : (text : List ℕ) (table : List (List ℕ)) → length table ≡ 8 → Reading text table 0 0
-unfolding tableIn
-reading-start text table e = record { eight = e; within = omega arith; rest = sym (before-none (rowsIn 8 text)) }
-
-module _ {text : List ℕ} {table : List (List ℕ)} {place code : ℕ} (m : Reading text table place code) where
-  -- one row more, as it was told
-  module _ (h : code < 8) (ok : Bool) (w : List ℕ) (next : ℕ)
-      (told : (k : Row → List ℕ → Rows) → rowLines (drop place text) k ≡ cond ok (k (surfaceIn w) (drop next text)) malformed) where
-    rest-is : tableIn text ≡ before (map surfaceIn (take code table)) (cond ok (before (surfaceIn w ∷ []) (rowsIn (7 - code) (drop next text))) malformed)
-    unfolding rowsIn
-    rest-is =
-        let more : 8 - code ≡ suc (7 - code) = omega arith in
-        m .rest ∙ rw (more, told) refl
-
-    pub reading-on : ok ≡ true → Reading text (set table code w) next (code + 1)
-    reading-on e =
-        record {
-          eight = length-set table code w ∙ m .eight;
-          within = omega arith;
-          rest = rest-is ∙ rw (e, before-both, take-on, map-last, fewer) refl;
-        }
-      where
-        take-on : take (code + 1) (set table code w) ≡ take code table ++ (w ∷ [])
-        take-on = rw (add-one code) (take-suc-set table code w (omega (arith, m .eight)))
-
-        fewer : 8 - (code + 1) ≡ 7 - code
-        fewer = omega arith
-
-    pub reading-stops : ok ≡ false → tableIn text ≡ malformed
-    reading-stops e = rest-is ∙ rw e refl
-
-  module _ (past : 8 ≤ code) where
-    at-end : tableIn text ≡ before (map surfaceIn table) (cond (eqb (length (drop place text)) 0) (rows []) malformed)
-    unfolding rowsIn
-    at-end =
-        let last : code ≡ 8 = omega (arith, m .within) in
-        m .rest ∙ rw (last, take-all 8 table (omega (arith, m .eight))) refl
-
-    pub reading-ends : length text ≤ place → tableIn text ≡ rows (map surfaceIn table)
-    reading-ends h = at-end ∙ rw (eq-eqb (length (drop place text)) 0 (omega (arith, length-drop place text)), append-nil) refl
-
-    pub reading-goes-on : place < length text → tableIn text ≡ malformed
-    reading-goes-on h = at-end ∙ rw (ne-eqb (length (drop place text)) 0 (λ e. omega (arith, length-drop place text))) refl
-
--- ---- what is told of it
-
-abbrev pub Told : (text : List ℕ) (table : List (List ℕ)) → Type 0
-Told text table =
-    (unsound (map surfaceIn table) ≡ badTable (tableIn text)) × (unsound (map surfaceIn table) ≡ false → map surfaceIn table ≡ rowsLoaded (tableIn text))
-
-pub told-malformed : (text : List ℕ) → tableIn text ≡ malformed → Told text (replicate 8 (replicate 3 0))
-unfolding badTable unsound unsoundBelow soundRow rowOf
-told-malformed text e = (rw e refl, λ q. absurd (true≢false q))
-
-pub told-rows : (text : List ℕ) (table : List (List ℕ)) → tableIn text ≡ rows (map surfaceIn table) → Told text table
-unfolding badTable rowsLoaded
-told-rows text table e = (rw e refl, λ q. rw e refl)
-
--- ---- eight rows
-
-Many : ℕ → Rows → Type 0
-Many n (rows rs) = length rs ≡ n
-Many n malformed = Unit {0}
-
-line-many : (n : ℕ) (key t : List ℕ) (k : ℕ → List ℕ → Rows) → ((v : ℕ) (t : List ℕ) → Many n (k v t)) → Many n (numberLine key t k)
-unfolding numberLine Many
-line-many n key t k h = by-test (isNumber (fieldIn key numberMost t))
+-- as a function tells of their numbers
+pub rows-told : (text : List ℕ) (at : ℕ) (ok : Bool) (table : List (List ℕ)) (next : ℕ)
+    → groupsIn rowKeys 8 (drop at text) ≡ cond ok (got table (drop next text)) missing
+    → rowsIn (drop at text) ≡ cond ok (got (map surfaceIn table) (drop next text)) missing
+unfolding rowsIn
+rows-told text at ok table next e = rw e (by-test ok)
   where
-    by-test : (b : Bool) → Many n (cond b (k (valueIn (fieldIn key numberMost t)) (drop (suc (lineLength t)) t)) malformed)
-    by-test true = h _ _
-    by-test false = tt
-
-one-more : (n : ℕ) (r : Row) (x : Rows) → Many n x → Many (suc n) (before (r ∷ []) x)
-unfolding Many
-one-more n r (rows rs) h = ap suc h
-one-more n r malformed h = tt
-
-rows-many : (n : ℕ) (t : List ℕ) → Many n (rowsIn n t)
-unfolding rowsIn rowLines Many
-rows-many zero t = by-test (eqb (length t) 0)
-  where
-    by-test : (b : Bool) → Many 0 (cond b (rows []) malformed)
+    by-test : (t : Bool) → andThen (cond t (got table (drop next text)) missing) (λ gs u. got (map surfaceIn gs) u)
+        ≡ cond t (got (map surfaceIn table) (drop next text)) missing
     by-test true = refl
-    by-test false = tt
-rows-many (suc n) t =
-    line-many (suc n) _ t _ λ b t. line-many (suc n) _ t _ λ B t. line-many (suc n) _ t _ λ A t. one-more n (row b B A) (rowsIn n t) (rows-many n t)
+    by-test false = refl
 
--- a table that is accepted has eight
+-- ---- all of a text
+
+-- a table that is accepted has eight rows
 pub eight-loaded : (text : List ℕ) → badTable (tableIn text) ≡ false → length (rowsLoaded (tableIn text)) ≡ 8
-unfolding tableIn Many badTable rowsLoaded
-eight-loaded text e = by-rows (rowsIn 8 text) (rows-many 8 text) e
+unfolding tableIn badTable rowsLoaded
+eight-loaded text e = by-rows (tableIn text) refl e
   where
-    by-rows : (x : Rows) → Many 8 x → badTable x ≡ false → length (rowsLoaded x) ≡ 8
-    by-rows (rows rs) h e = h
-    by-rows malformed h e = absurd (true≢false e)
+    by-rows : (x : Got (List Row)) → tableIn text ≡ x → badTable x ≡ false → length (rowsLoaded x) ≡ 8
+    by-rows (got rs rest) q e = rows-taken text rs [] (whole-taken (rowsIn text) rs rest q .0) .1
+    by-rows missing q e = absurd (true≢false e)
+
+-- what a load finds of a text, as a function tells of its numbers
+module _ (text : List ℕ) (ok : Bool) (table : List (List ℕ)) (next : ℕ) (told : groupsIn rowKeys 8 text ≡ cond ok (got table (drop next text)) missing) where
+  table-told : tableIn text ≡ cond (ok && leb (length text) next) (got (map surfaceIn table) []) missing
+  unfolding tableIn
+  table-told = ap whole (rows-told text 0 ok table next told) ∙ whole-told (map surfaceIn table) ok next text
+
+  pub bad-told : badTable (tableIn text) ≡ not ok || ltb next (length text) || unsound (map surfaceIn table)
+  unfolding badTable
+  bad-told = rw table-told (by-tests ok (leb (length text) next) refl)
+    where
+      by-tests : (s t : Bool) → leb (length text) next ≡ t
+          → badTable (cond (s && t) (got (map surfaceIn table) []) missing) ≡ not s || ltb next (length text) || unsound (map surfaceIn table)
+      by-tests false t e = refl
+      by-tests true true e = rw (le-ltb next (length text) (leb-true (length text) next e)) refl
+      by-tests true false e = rw (lt-ltb next (length text) (leb-false (length text) next e)) refl
+
+  pub rows-loaded : badTable (tableIn text) ≡ false → rowsLoaded (tableIn text) ≡ map surfaceIn table
+  unfolding badTable rowsLoaded
+  rows-loaded good = rw table-told (by-test (ok && leb (length text) next) (rw table-told at good))
+    where
+      by-test : (t : Bool) → badTable (cond t (got (map surfaceIn table) []) missing) ≡ false
+          → rowsLoaded (cond t (got (map surfaceIn table) []) missing) ≡ map surfaceIn table
+      by-test true e = refl
+      by-test false e = absurd (true≢false e)
+
+-- ---- lengths
+
+pub length-row : (r : Row) → length (rowText r) ≡ 9 + length (decimal (r .guaranteed)) + length (decimal (r .hardest)) + length (decimal (r .most))
+unfolding rowText
+length-row r = simp (length-append, length-line) (omega arith)
+
+rows-length : (rs : List Row) → ((i : ℕ) → i < length rs → SoundRow (rowOf rs i)) → length (tableText rs) ≤ 18 * length rs
+unfolding rowOf tableText
+rows-length [] h = omega arith
+rows-length (r ∷ rs) h =
+    let s = h 0 (omega arith) in
+    let b = decimal-at-most 3 (r .guaranteed) (omega arith) (omega (arith, s .brakes-harder, s .hardest-most)) in
+    let B = decimal-at-most 3 (r .hardest) (omega arith) (omega (arith, s .hardest-most)) in
+    let A = decimal-at-most 3 (r .most) (omega arith) (omega (arith, s .gains-most)) in
+    rw (length-append (rowText r) (tableText rs), length-row r) (omega (arith, rows-length rs (λ i p. h (suc i) (omega arith))))
+
+-- the lines of sound rows have at most 6 bytes
+pub table-length : (rs : List Row) → length rs ≡ 8 → unsound rs ≡ false → length (tableText rs) ≤ 144
+table-length rs eight e = omega (arith, rows-length rs (λ i p. sound-at rs i (omega arith) e))
+
+-- ---- the rows that a loop has still to see
+
+module _ (rs : List Row) (code : ℕ) where
+  text-next : code < length rs → tableText (drop code rs) ≡ rowText (rowOf rs code) ++ tableText (drop (code + 1) rs)
+  unfolding rowOf tableText
+  text-next h = rw (drop-cons rs code (row 0 0 0) h, add-one code) refl
+
+  text-past : length rs ≤ code → tableText (drop code rs) ≡ []
+  unfolding tableText
+  text-past h = rw (drop-of-length-le rs h) refl
+
+  pub length-next : code < length rs → length (tableText (drop code rs)) ≡ length (rowText (rowOf rs code)) + length (tableText (drop (code + 1) rs))
+  length-next h = ap length (text-next h) ∙ length-append (rowText (rowOf rs code)) (tableText (drop (code + 1) rs))
+
+  pub length-past : length rs ≤ code → length (tableText (drop code rs)) ≡ 0
+  length-past h = ap length (text-past h)
+
+-- ---- writes
+
+pub put-row : (at : ℕ) (r : Row) (buffer : List ℕ) {p q end : ℕ} {out₁ out₂ out : List ℕ} → at + length (rowText r) ≤ length buffer
+    → Put at (line (ascii "b=") (decimal (r .guaranteed))) buffer out₁ p
+    → Put p (line (ascii "B=") (decimal (r .hardest))) out₁ out₂ q
+    → Put q (line (ascii "A=") (decimal (r .most))) out₂ out end
+    → (out ≡ written at (rowText r) buffer) × (end ≡ at + length (rowText r))
+unfolding rowText
+put-row at r buffer room x y z =
+    let b = line (ascii "b=") (decimal (r .guaranteed)) in
+    let B = line (ascii "B=") (decimal (r .hardest)) in
+    let A = line (ascii "A=") (decimal (r .most)) in
+    let same : b ++ B ++ A ≡ rowText r = rw (append-nil, append-assoc) refl in
+    let whole : at + length (b ++ B ++ A) ≤ length buffer = rw same room in
+    let two = put-both at b B buffer (omega (arith, length-append (b ++ B) A)) x y in
+    let all = put-both at (b ++ B) A buffer whole two z in
+    (rw same at (all .0), rw same at (all .1 ∙ place-fits at (b ++ B ++ A) buffer whole))
+
+-- what a loop over the rows has written: those from a code on are still to be put, and there is room
+pub record Writing (rs : List Row) (at₀ : ℕ) (out₀ out : List ℕ) (at code : ℕ) : Type 0 where
+  pub same : length out ≡ length out₀
+  pub ends : at + length (tableText (drop code rs)) ≡ at₀ + length (tableText rs)
+  pub room : at + length (tableText (drop code rs)) ≤ length out
+  pub rest : written at (tableText (drop code rs)) out ≡ written at₀ (tableText rs) out₀
+
+pub writing-start : (rs : List Row) (at : ℕ) (out : List ℕ) → at + length (tableText rs) ≤ length out → Writing rs at out out at 0
+writing-start rs at out room = record { same = refl; ends = refl; room = room; rest = refl }
+
+module _ {rs : List Row} {at₀ at code : ℕ} {out₀ out : List ℕ} (w : Writing rs at₀ out₀ out at code) where
+  pub writing-next : {at₁ : ℕ} {out₁ : List ℕ} → code < length rs → out₁ ≡ written at (rowText (rowOf rs code)) out
+      → at₁ ≡ at + length (rowText (rowOf rs code)) → Writing rs at₀ out₀ out₁ at₁ (code + 1)
+  writing-next h e f =
+      let bytes = rowText (rowOf rs code) in
+      let left = tableText (drop (code + 1) rs) in
+      let same = ap length e ∙ length-written at bytes out in
+      let long = length-next rs code h in
+      record {
+        same = same ∙ w .same;
+        ends = omega (arith, w .ends);
+        room = omega (arith, w .room);
+        rest = cc (written-then at bytes left out (omega (arith, w .room)), text-next rs code h, w .rest);
+      }
+
+  pub writing-end : length rs ≤ code → (out ≡ written at₀ (tableText rs) out₀) × (at ≡ at₀ + length (tableText rs))
+  writing-end h = (cc (written-nothing at out, text-past rs code h, w .rest), omega (arith, length-past rs code h, w .ends))

@@ -1,6 +1,8 @@
 -- Each field is read where the one before ends.
 use borrow.Author.Needs.{needs}
-use Rattle.lane.proofs.checks.TableTexts.{row-told}
+use Rattle.text.specs.Ascii.{ascii}
+use Rattle.text.proofs.GroupLaws.{group-first, group-next, group-read}
+use Rattle.lane.specs.Table.{numberMost}
 use Rattle.lane.proofs.table.read_row.Statement.{statement}
 use Rattle.lane.proofs.table.read_row.Tie as tie
 
@@ -28,7 +30,9 @@ returns c =
     let second = third .before .before in
     let first = second .before .before in
     let a = first .before .before .before .args in
-    row-told (a .text .now) (a .at) (first .read-field .result) (second .read-field2 .result) (third .read-field3 .result) (first .read-field .ensures) (second .read-field2 .ensures) (third .read-field3 .ensures)
+    let guaranteed = group-first (record { name = ascii "b="; most = numberMost }) (a .text .now) (a .at) (first .read-field .result) (first .read-field .ensures) in
+    let hardest = group-next guaranteed (record { name = ascii "B="; most = numberMost }) (second .read-field2 .result) (second .read-field2 .ensures) in
+    group-read (group-next hardest (record { name = ascii "A="; most = numberMost }) (third .read-field3 .result) (third .read-field3 .ensures))
 
 pub read-row-spec : {M : Type 1} → statement M
 read-row-spec =

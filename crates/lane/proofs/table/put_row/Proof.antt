@@ -1,0 +1,60 @@
+-- The three lines, put one after the other, are the row's text.
+use borrow.Author.Needs.{needs}
+use Rattle.lane.specs.Layout.{surfaceIn}
+use Rattle.lane.proofs.checks.TableTexts.{put-row}
+use Rattle.lane.proofs.table.put_row.Statement.{statement}
+use Rattle.lane.proofs.table.put_row.Tie as tie
+
+slice-aggregate-put-decimal-line : tie.Need-slice-aggregate-put-decimal-line
+slice-aggregate-put-decimal-line c = search needs
+
+array-read-put-decimal-line : tie.Need-array-read-put-decimal-line
+array-read-put-decimal-line c = search needs
+
+put-decimal-line-requires : tie.Need-put-decimal-line-requires
+put-decimal-line-requires c κs = search needs
+
+slice-aggregate-put-decimal-line-2 : tie.Need-slice-aggregate-put-decimal-line-2
+slice-aggregate-put-decimal-line-2 c = search needs
+
+array-read-put-decimal-line-2 : tie.Need-array-read-put-decimal-line-2
+array-read-put-decimal-line-2 c = search needs
+
+put-decimal-line-requires-2 : tie.Need-put-decimal-line-requires-2
+put-decimal-line-requires-2 c κs = search needs
+
+slice-aggregate-put-decimal-line-3 : tie.Need-slice-aggregate-put-decimal-line-3
+slice-aggregate-put-decimal-line-3 c = search needs
+
+array-read-put-decimal-line-3 : tie.Need-array-read-put-decimal-line-3
+array-read-put-decimal-line-3 c = search needs
+
+put-decimal-line-requires-3 : tie.Need-put-decimal-line-requires-3
+put-decimal-line-requires-3 c κs = search needs
+
+same-length : tie.Need-same-length
+same-length c = search needs
+
+returns : tie.Need-returns
+returns c =
+    let most = c .before .before in
+    let hardest = most .before .before .before .before .before in
+    let guaranteed = hardest .before .before .before .before .before in
+    let start = guaranteed .before .before .before .before in
+    put-row (start .args .at) (surfaceIn (start .args .t3)) (start .args .out .now) (start .pre) (guaranteed .put-decimal-line .ensures) (hardest .put-decimal-line2 .ensures) (most .put-decimal-line3 .ensures)
+
+pub put-row-spec : {M : Type 1} → statement M
+put-row-spec =
+    tie.close
+    (tie.spec
+    slice-aggregate-put-decimal-line
+    array-read-put-decimal-line
+    put-decimal-line-requires
+    slice-aggregate-put-decimal-line-2
+    array-read-put-decimal-line-2
+    put-decimal-line-requires-2
+    slice-aggregate-put-decimal-line-3
+    array-read-put-decimal-line-3
+    put-decimal-line-requires-3
+    same-length
+    returns)
