@@ -1,25 +1,20 @@
 -- The parts of the text are read one after the other, and what each says is put in the lane.
 use borrow.Author.Needs.{needs}
-use mathlib.Core.Path.{_≡_, refl, sym, ap, _∙_}
-use mathlib.Core.List.{List, [], _∷_, map}
-use mathlib.Core.Bool.{Bool, true, false, cond}
-use Prim.Native.Nat.{ℕ, _≤_}
-use native.Mathlib.Omega.{arith}
-use lib.ListN.{length, drop}
-use Rattle.text.specs.Groups.{Got, got, missing, groupsIn}
+use mathlib.Core.Path.{ap, _∙_}
+use mathlib.Core.List.{[], _∷_, map}
+use mathlib.Core.Bool.{_&&_, cond}
+use Prim.Native.Nat.{_≤_}
+use lib.Dec.{leb}
+use lib.ListN.{length, take}
+use Rattle.text.specs.Groups.{got, missing}
 use Rattle.text.proofs.ReadLaws.{field-at-most}
-use Rattle.lane.specs.Surface.{Tables}
 use Rattle.lane.specs.State.{State}
-use Rattle.lane.specs.Layout.{surfaceIn}
-use Rattle.lane.specs.Table.{rowKeys, rowsIn}
+use Rattle.lane.specs.Layout.{surfaceIn, recordsIn}
+use Rattle.lane.proofs.checks.TableTexts.{rows-told}
 use Rattle.lane.proofs.calls.Read.{lane-told}
 use Rattle.lane.proofs.calls.Handing.{parts-told, tables-put, holds-it}
 use Rattle.lane.proofs.transfer.read.Statement.{statement}
 use Rattle.lane.proofs.transfer.read.Tie as tie
-
-rows-told : (text : List ℕ) (at : ℕ) (ok : Bool) (table : List (List ℕ)) (next : ℕ)
-    → groupsIn rowKeys 8 (drop at text) ≡ cond ok (got table (drop next text)) missing → rowsIn (drop at text) ≡ cond ok (got (map surfaceIn table) (drop next text)) missing
-rows-told text at ok table next e = ?
 
 read-requires : tie.Need-read-requires
 read-requires c κs = search needs
@@ -69,13 +64,23 @@ returns c =
     let first = put-first .before .before in
     let start = first .before .before .before in
     let text = start .args .text .now in
-    let told = parts-told text _ _ _ _ _ _ _ _ _ _ _ _ _ (rows-told text 0 _ _ _ (first .read .ensures .0)) (rows-told text _ _ _ _ (next .read2 .ensures .0))
-    (figures .read-road .ensures) (lane-told text _ _ (cars .read-field .ensures) _ _ _ (carriers .read-carriers .ensures .1 .0)) in
-    let tables = tables-put _ _ _ (put-first .put-next .ensures .1 .0) (in-force .put-in-force .ensures .1 .0) (put-next .put-next2 .ensures .1 .0) in
+    let a = first .read .result in
+    let b = next .read2 .result in
+    let f = figures .read-road .result in
+    let n = cars .read-field .result in
+    let d = carriers .read-carriers .result in
+    let rows = first .read .last .1 .1 .0 in
+    let rows-2 = next .read2 .last .1 .1 .0 in
+    let l = carriers .read-carriers .last .0 in
     let stay = carriers .read-carriers .ensures .0 in
-    told
-    ∙ ap (λ (s : State). cond _ (got s []) missing)
-    (holds-it _ _ _ _ _ _ (stay .0 ∙ put .put-figures .ensures .0) (stay .1 ∙ put .put-figures .ensures .1 .0 ∙ tables) (few road) (carriers .read-carriers .ensures .1 .1))
+    let tables = tables-put _ (map surfaceIn rows) (map surfaceIn rows-2) (put-first .put-next .ensures .1 .0) (in-force .put-in-force .ensures .1 .0) (put-next .put-next2 .ensures .1 .0) in
+    parts-told text (map surfaceIn rows) (map surfaceIn rows-2) (f .road .surface ∷ f .road .end ∷ f .road .limit ∷ f .cycle ∷ []) (take (n .value) (recordsIn l)) (a .next) (b .next) (f .next) (d .next) (a .ok) (b .ok) (f .ok) (n .ok) (d .ok)
+    (rows-told text 0 (a .ok) rows (a .next) (first .read .ensures .0))
+    (rows-told text (a .next) (b .ok) rows-2 (b .next) (next .read2 .ensures .0))
+    (figures .read-road .ensures)
+    (lane-told text (f .next) n (cars .read-field .ensures) (d .ok) (take (n .value) (recordsIn l)) (d .next) (carriers .read-carriers .ensures .1 .0))
+    ∙ ap (λ (s : State). cond (a .ok && b .ok && f .ok && n .ok && d .ok && leb (length text) (d .next)) (got s []) missing)
+    (holds-it l (map surfaceIn rows) (map surfaceIn rows-2) (f .road) (f .cycle) (n .value) (stay .0 ∙ put .put-figures .ensures .0) (stay .1 ∙ put .put-figures .ensures .1 .0 ∙ tables) (few road) (carriers .read-carriers .ensures .1 .1))
 
 pub read-spec : {M : Type 1} → statement M
 read-spec =
