@@ -132,10 +132,10 @@ module _ (l : List Carrier) (count : ℕ) (k : count ≤ length l) where
     further road e = rw from-here (misfit-stays road (getD l (i - 1) none) (slice i count l) e)
 
     -- those from it on are safe if those behind it are, the first of them behind it
-    pub gap-next : (r : Row) → i < count
-        → laneSafe r (slice (i - 1) count l) ≡ safeWith r (leader (getD l (i - 1) none)) (getD l i none) && laneSafe r (slice i count l)
+    pub gap-next : (r : Row) (ahead behind : Carrier) → ahead ≡ getD l (i - 1) none → behind ≡ getD l i none → i < count
+        → laneSafe r (slice (i - 1) count l) ≡ safeWith r (leader ahead) behind && laneSafe r (slice i count l)
     unfolding laneSafe safeFrom safeWith
-    gap-next r q = rw (from-here, slice-next none l i count q k) refl
+    gap-next r ahead behind e f q = rw (e, f, from-here, slice-next none l i count q k) refl
 
     -- no one is behind the last
     pub gap-past : (r : Row) → count ≤ i → laneSafe r (slice (i - 1) count l) ≡ laneSafe r (slice i count l)

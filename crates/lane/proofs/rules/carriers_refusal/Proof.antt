@@ -138,15 +138,11 @@ gap : (c : tie.After-safe-at Inv-loop μ-loop) → let e = c .before .before in 
 gap c =
     let e = c .before .before in
     let a = s e .args in
-    let i = at e .loop .i in
     let inv = at e .loop .inv in
-    let h : i < a .count = omega arith in
-    let near : c .safe-at .result ≡ safeWith (a .row) (leader (getD (l e) (i - 1) none)) (getD (l e) i none)
-    = c .safe-at .ensures
-    ∙ ap (λ (b : Carrier). safeWith (a .row) (leader (carrier e)) b) (inv .behind-is h)
-    ∙ ap (λ (b : Carrier). safeWith (a .row) (leader b) (getD (l e) i none)) (at-carrier e .carrier-at .ensures) in
-    gap-next (l e) (a .count) (omega arith) i (omega arith) (omega arith) (a .row) h
-    ∙ sym (ap (λ (t : Bool). t && at e .loop .safe) near ∙ ap (λ (t : Bool). safeWith (a .row) (leader (getD (l e) (i - 1) none)) (getD (l e) i none) && t) (inv .safe-is))
+    let h : at e .loop .i < a .count = omega arith in
+    let ahead = at-carrier e .carrier-at .ensures in
+    gap-next (l e) (a .count) (omega arith) (at e .loop .i) (omega arith) (omega arith) (a .row) (carrier e) (at e .loop .behind) ahead (inv .behind-is h) h
+    ∙ sym (ap (λ (t : Bool). t && at e .loop .safe) (c .safe-at .ensures) ∙ ap (λ (t : Bool). safeWith (a .row) (leader (carrier e)) (at e .loop .behind) && t) (inv .safe-is))
 
 -- past both tests of the carrier it is known whether those from it on are safe
 safe-on : (c : tie.Joined2 Inv-loop μ-loop) → let e = c .before in let a = s e .args in
