@@ -1,7 +1,7 @@
 -- The lane text as its loops over the carriers make it, its length, and what decides `lane_text`.
 use mathlib.Core.Path.{_≡_, refl, ap, _∙_}
 use mathlib.Core.Bool.{true, false}
-use mathlib.Core.List.{List, [], _∷_, _++_, append-assoc, append-nil}
+use mathlib.Core.List.{List, [], _∷_, _++_}
 use Prim.Native.Nat.{ℕ, suc, _+_, _*_, _≤_, _<_}
 use native.Mathlib.Nat.{zero-add}
 use native.Mathlib.Omega.{arith}
@@ -10,7 +10,8 @@ use lib.ListN.{length, getD, take, length-append}
 use lib.Seq.{slice}
 use Rattle.text.specs.Numbers.{decimal}
 use Rattle.text.specs.Lines.{line, written}
-use Rattle.text.proofs.Laws.{decimal-at-most, length-line, length-written, place-fits, written-fits, written-nothing, written-then, Put, put-both}
+use Rattle.text.specs.Groups.{Key}
+use Rattle.text.proofs.Laws.{decimal-at-most, length-line, length-written, place-fits, written-fits, written-nothing, written-then, Put}
 use Rattle.lane.specs.declared.Carrier.{Carrier}
 use Rattle.lane.specs.declared.Road.{Road}
 use Rattle.lane.specs.declared.layout.Figures.{Figures}
@@ -20,11 +21,15 @@ use Rattle.lane.specs.Surface.{Tables}
 use Rattle.lane.specs.Layout.{Words, stateWith, stateOf}
 use Rattle.lane.specs.Rules.{broken}
 use Rattle.lane.specs.Calls.{none}
-use Rattle.lane.specs.Listing.{carKey, atKey, speedKey, lengthKey, brakeKey, carsKey, carrierText, carriersText, laneText, textNo, textBytes}
+use Rattle.lane.specs.Listing.{carrierKeys, carsKey, carrierText, carriersText, laneText, textNo, textBytes}
 use Rattle.lane.proofs.lists.Lists.{slice-next, slice-past}
 use Rattle.lane.proofs.checks.Soundness.{SoundRoad, sound}
 use Rattle.lane.proofs.Unbroken.{carriers-lawful}
 use Rattle.lane.proofs.calls.Answers.{counted-most}
+
+-- the key of a carrier's line, from 0 on
+abbrev pub lineKey : ℕ → Key
+lineKey i = getD carrierKeys i carsKey
 
 -- ---- lengths
 
@@ -82,37 +87,6 @@ pub length-next : (d : Carrier) (l : List Carrier) (i count : ℕ) → i < count
 length-next d l i count h k = ap length (carriers-next d l i count h k) ∙ simp length-append
 
 -- ---- writes
-
-five-lines : (c : Carrier) → carrierText c
-    ≡ line carKey (decimal (c .number))
-    ++ line atKey (decimal (c .position))
-    ++ line speedKey (decimal (c .speed))
-    ++ line lengthKey (decimal (c .length))
-    ++ line brakeKey (decimal (c .rate))
-unfolding carrierText
-five-lines c = simp (append-assoc, append-nil)
-
-pub put-carrier : (at : ℕ) (c : Carrier) (buffer : List ℕ) {p q r s end : ℕ} {out₁ out₂ out₃ out₄ out : List ℕ} → at + length (carrierText c) ≤ length buffer
-    → Put at (line carKey (decimal (c .number))) buffer out₁ p
-    → Put p (line atKey (decimal (c .position))) out₁ out₂ q
-    → Put q (line speedKey (decimal (c .speed))) out₂ out₃ r
-    → Put r (line lengthKey (decimal (c .length))) out₃ out₄ s
-    → Put s (line brakeKey (decimal (c .rate))) out₄ out end
-    → (out ≡ written at (carrierText c) buffer) × (end ≡ at + length (carrierText c))
-put-carrier at c buffer room v w x y z =
-    let number = line carKey (decimal (c .number)) in
-    let position = line atKey (decimal (c .position)) in
-    let speed = line speedKey (decimal (c .speed)) in
-    let long = line lengthKey (decimal (c .length)) in
-    let rate = line brakeKey (decimal (c .rate)) in
-    let whole : at + length (number ++ position ++ speed ++ long ++ rate) ≤ length buffer = rw five-lines at room in
-    let four : at + length (number ++ position ++ speed ++ long) ≤ length buffer = omega (arith, length-append (number ++ position ++ speed ++ long) rate) in
-    let three : at + length (number ++ position ++ speed) ≤ length buffer = omega (arith, length-append (number ++ position ++ speed) long) in
-    let two = put-both at number position buffer (omega (arith, length-append (number ++ position) speed)) v w in
-    let with-speed = put-both at (number ++ position) speed buffer three two x in
-    let but-one = put-both at (number ++ position ++ speed) long buffer four with-speed y in
-    let all = put-both at (number ++ position ++ speed ++ long) rate buffer whole but-one z in
-    rw five-lines (all .0, all .1 ∙ place-fits at (number ++ position ++ speed ++ long ++ rate) buffer whole)
 
 -- what a loop over the carriers has written: those from i on are still to be put, and there is room
 pub record Writing (carriers : List Carrier) (count at₀ : ℕ) (out₀ out : List ℕ) (at i : ℕ) : Type 0 where
