@@ -19,7 +19,7 @@ use Rattle.lane.specs.Limits.{mostCarriers}
 use Rattle.lane.specs.State.{State}
 use Rattle.lane.specs.Layout.{Words, stateOf}
 use Rattle.lane.specs.Calls.{none, enterNo, namedNo, namedCarrier, cycleNo, cycleGone}
-use Rattle.lane.specs.Call.{Call, start-call, load-call, enter-call, leave-call, surface-call, cycle-call, read-call, opening-call, text-call, Answer, bare, placed, run, shown, spanned, told, callNo, lentTo, acceptedAnswer, callAnswer, entered, cycled, readOut, opening, listed}
+use Rattle.lane.specs.Call.{Call, start-call, load-call, enter-call, leave-call, surface-call, cycle-call, read-call, opening-call, text-call, handover-call, Answer, bare, placed, run, shown, spanned, told, callNo, lentTo, acceptedAnswer, callAnswer, entered, cycled, readOut, opening, listed}
 use Rattle.lane.proofs.checks.Soundness.{fit-at, fit-narrow}
 use Rattle.lane.proofs.calls.Answers.{accepted-answers, answer-number, counted-most, enter-tells, walk-le, named-tells, ready-tells, cycle-tells}
 pub use Rattle.lane.proofs.calls.Left.{gives-some, surface-words}
@@ -35,6 +35,7 @@ Returned (cycle-call count ws) a = (r : Cycled) × (a ≡ cycled r)
 Returned (read-call number) a = (r : ReadOut) × (a ≡ readOut r)
 Returned (opening-call g n) a = (r : Opening) × (a ≡ opening r)
 Returned (text-call buffer) a = (r : Listed) × (a ≡ listed r (a .bytes))
+Returned (handover-call buffer) a = (r : Listed) × (a ≡ listed r (a .bytes))
 
 -- what keeps the accepted answer and the refused one as they are keeps the call's
 kept-by : (x : Call) (s : State) (form : Answer → Answer) → acceptedAnswer x s ≡ form (acceptedAnswer x s)
@@ -79,6 +80,10 @@ returned (opening-call g n) s =
     (record { no = callAnswer x s .number; exists = a .exists; lowest = a .lowest; highest = a .highest }, kept-by x s (λ a. spanned (a .number) (a .span)) refl refl)
 returned (text-call buffer) s =
     let x = text-call buffer in
+    let a = callAnswer x s in
+    (record { no = a .number; length = a .long }, kept-by x s (λ a. told (a .number) (a .long) (a .bytes)) refl refl)
+returned (handover-call buffer) s =
+    let x = handover-call buffer in
     let a = callAnswer x s in
     (record { no = a .number; length = a .long }, kept-by x s (λ a. told (a .number) (a .long) (a .bytes)) refl refl)
 

@@ -24,8 +24,9 @@ use Rattle.lane.specs.Wishes.{anyOutside}
 use Rattle.lane.specs.Table.{tableIn, badTable, rowsLoaded, loadNo, loadedState}
 use Rattle.lane.specs.Calls.{none, withCarriers, startNo, begunState, aheadOf, walk, gapNo, placeNo, enterNo, insertAt, enteredState, namedNo, placeOf, removeAt, leftState, readyNo, cycleNo, surfaceNo, surfacedState}
 use Rattle.lane.specs.Opening.{newcomerAt, gapNamedNo, openingNo}
-use Rattle.lane.specs.Listing.{laneText, textNo}
-use Rattle.lane.specs.Call.{Call, start-call, load-call, enter-call, leave-call, surface-call, cycle-call, read-call, opening-call, text-call, Meaning, meaning, callNo, acceptedState, callState, Kept}
+use Rattle.lane.specs.Listing.{laneText, writtenNo, textNo}
+use Rattle.lane.specs.Handover.{handoverText, handoverNo}
+use Rattle.lane.specs.Call.{Call, start-call, load-call, enter-call, leave-call, surface-call, cycle-call, read-call, opening-call, text-call, handover-call, Meaning, meaning, callNo, acceptedState, callState, Kept}
 use Rattle.lane.proofs.lists.Passed.{both}
 use Rattle.lane.proofs.calls.Answers.{accepted-changes, accepted-sound, load-tells, opening-tells}
 use Rattle.lane.proofs.checks.Records.{code-by-code}
@@ -121,9 +122,8 @@ cycle-check s count ws =
     one-of b (eqb (readyNo s count) 0) _ _ (last-check b (anyOutside (s .carriers) (take (s .count) ws)) 7 refl)
     (state-check b _ (one-of b (not (eqb count (s .count))) 27 _ refl (last-check b (eqb (s .cycle) lastCycle) 28 refl)))
 
-text-check : (s : State) (buffer : List ℕ) → lawfulNo (broken s) (textNo s buffer) ≡ true
-unfolding textNo
-text-check s buffer = let b = broken s in state-check b _ (last-check b (ltb (length buffer) (length (laneText s))) 9 refl)
+written-check : (s : State) (text buffer : List ℕ) → lawfulNo (broken s) (writtenNo s text buffer) ≡ true
+written-check s text buffer = let b = broken s in state-check b _ (last-check b (ltb (length buffer) (length text)) 9 refl)
 
 gap-check : (s : State) (g : Gap) → lawfulNo (broken s) (gapNamedNo s g) ≡ true
 unfolding gapNamedNo
@@ -156,7 +156,7 @@ unchanged : (s : State) → s .count ≡ length (s .carriers) → Sound s → Ke
 unchanged s counted h = record { unbroken = sound-holds s h; counted = counted }
 
 lawful : (x : Call) → Lawful (meaning x)
-unfolding namedNo textNo
+unfolding namedNo textNo handoverNo
 lawful (start-call road first) = record { leaves = λ s counted e. kept (start-keeps s road first e); numbered = λ s. start-check s road }
 lawful (load-call text) = record { leaves = λ s counted e. load-outcome s counted text e; numbered = λ s. load-check s text }
 lawful (enter-call c) = record { leaves = λ s counted e. kept (enter-keeps s counted c e); numbered = λ s. enter-check s c }
@@ -168,7 +168,9 @@ lawful (read-call number) =
 lawful (opening-call g n) =
     record { leaves = λ s counted e. kept (unchanged s counted (opening-tells s g n e .sound)); numbered = λ s. opening-check s g n }
 lawful (text-call buffer) =
-    record { leaves = λ s counted e. kept (unchanged s counted (accepted-sound s _ e)); numbered = λ s. text-check s buffer }
+    record { leaves = λ s counted e. kept (unchanged s counted (accepted-sound s _ e)); numbered = λ s. written-check s (laneText s) buffer }
+lawful (handover-call buffer) =
+    record { leaves = λ s counted e. kept (unchanged s counted (accepted-sound s _ e)); numbered = λ s. written-check s (handoverText s) buffer }
 
 pub accepted-leaves : (x : Call) (s : State) → s .count ≡ length (s .carriers) → callNo x s ≡ 0 → Outcome s (callState x s)
 accepted-leaves x s counted e = subst (Outcome s) (sym (accepted-changes x s e)) (lawful x .leaves s counted e)
@@ -294,6 +296,9 @@ opening-accepted s g n = unchanging (opening-call g n) s refl
 
 pub text-accepted : (s : State) (buffer : List ℕ) → callState (text-call buffer) s ≡ s
 text-accepted s buffer = unchanging (text-call buffer) s refl
+
+pub handover-accepted : (s : State) (buffer : List ℕ) → callState (handover-call buffer) s ≡ s
+handover-accepted s buffer = unchanging (handover-call buffer) s refl
 
 -- ---- the place of the first carrier that passes a test
 module _ (f : Carrier → Bool) where

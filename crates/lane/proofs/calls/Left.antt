@@ -10,7 +10,7 @@ use Rattle.lane.specs.State.{State}
 use Rattle.lane.specs.Layout.{Words, stateOf, withCode}
 use Rattle.lane.specs.Table.{tableIn, rowsLoaded, loadedState}
 use Rattle.lane.specs.Calls.{begunState, enteredState, leftState, cycledState}
-use Rattle.lane.specs.Call.{Call, start-call, load-call, enter-call, leave-call, surface-call, cycle-call, read-call, opening-call, text-call, meaning, callNo, acceptedState, callAnswer, Gives}
+use Rattle.lane.specs.Call.{Call, start-call, load-call, enter-call, leave-call, surface-call, cycle-call, read-call, opening-call, text-call, handover-call, meaning, callNo, acceptedState, callAnswer, Gives}
 use Rattle.lane.proofs.checks.Records.{table-eight, wordsFor, Fills, words-for, withNext, with-next, code-state}
 use Rattle.lane.proofs.checks.TableTexts.{eight-loaded}
 use Rattle.lane.proofs.calls.Answers.{refused-changes-nothing, accepted-changes, answer-number, load-tells, surface-tells}
@@ -41,6 +41,7 @@ leaves (cycle-call count ws) l z = written l (cycledState (stateOf l) ws) (fille
 leaves (read-call number) l z = (l, refl, λ r. refl)
 leaves (opening-call g n) l z = (l, refl, λ r. refl)
 leaves (text-call buffer) l z = (l, refl, λ r. refl)
+leaves (handover-call buffer) l z = (l, refl, λ r. refl)
 
 -- the lane that a call leaves, by whether its number is 0
 abbrev pub LeftBy : (x : Call) (l : Words) → Type 0

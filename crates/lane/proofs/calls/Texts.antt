@@ -1,17 +1,15 @@
--- The lane text as its loops over the carriers make it, its length, and what decides `lane_text`.
+-- The lane text as its loops over the carriers make it and its length.
 use mathlib.Core.Path.{_≡_, refl, ap, _∙_}
-use mathlib.Core.Bool.{true, false}
+use mathlib.Core.Bool.{false}
 use mathlib.Core.List.{List, [], _∷_, _++_}
 use Prim.Native.Nat.{ℕ, suc, _+_, _*_, _≤_, _<_}
-use native.Mathlib.Nat.{zero-add}
 use native.Mathlib.Omega.{arith}
-use lib.Dec.{ltb}
 use lib.ListN.{length, getD, take, length-append}
 use lib.Seq.{slice}
 use Rattle.text.specs.Numbers.{decimal}
 use Rattle.text.specs.Lines.{line, written}
 use Rattle.text.specs.Groups.{Key}
-use Rattle.text.proofs.Laws.{decimal-at-most, length-line, length-written, place-fits, written-fits, written-nothing, written-then, Put}
+use Rattle.text.proofs.Laws.{decimal-at-most, length-line, length-written, place-fits, written-nothing, written-then, Put}
 use Rattle.lane.specs.declared.Carrier.{Carrier}
 use Rattle.lane.specs.declared.Road.{Road}
 use Rattle.lane.specs.declared.layout.Figures.{Figures}
@@ -21,7 +19,7 @@ use Rattle.lane.specs.Surface.{Tables}
 use Rattle.lane.specs.Layout.{Words, stateWith, stateOf}
 use Rattle.lane.specs.Rules.{broken}
 use Rattle.lane.specs.Calls.{none}
-use Rattle.lane.specs.Listing.{carrierKeys, carsKey, carrierText, carriersText, laneText, textNo, textBytes}
+use Rattle.lane.specs.Listing.{carrierKeys, carsKey, carrierText, carriersText, laneText}
 use Rattle.lane.proofs.lists.Lists.{slice-next, slice-past}
 use Rattle.lane.proofs.checks.Soundness.{SoundRoad, sound}
 use Rattle.lane.proofs.Unbroken.{carriers-lawful}
@@ -142,24 +140,3 @@ writing-next d {carriers} {count} {at₀} {at} {at₁} {i} {out₀} {out} {out�
       room = omega (arith, w .room);
       rest = cc (written-then at bytes left out (omega (arith, w .room)), carriers-next d carriers i count h k, w .rest);
     }
-
--- ---- what decides `lane_text`
-
-module _ (s : State) (buffer : List ℕ) where
-  pub text-broken : broken s ≡ true → textNo s buffer ≡ 21
-  unfolding textNo
-  text-broken b = rw b refl
-
-  module _ (b : broken s ≡ false) where
-    pub text-too-long : ltb (length buffer) (length (laneText s)) ≡ true → textNo s buffer ≡ 9
-    unfolding textNo
-    text-too-long h = rw (b, h) refl
-
-    pub text-fits : ltb (length buffer) (length (laneText s)) ≡ false → textNo s buffer ≡ 0
-    unfolding textNo
-    text-fits h = rw (b, h) refl
-
-  -- the text put at the buffer's start
-  pub text-put : length (laneText s) ≤ length buffer → written 0 (laneText s) buffer ≡ textBytes s buffer
-  unfolding textBytes
-  text-put h = simp zero-add at (written-fits 0 (laneText s) buffer (omega arith))

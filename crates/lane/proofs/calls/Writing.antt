@@ -1,11 +1,11 @@
 -- What decides a text of the lane that is written into a lent buffer, whichever text it is.
-use mathlib.Core.Path.{_≡_, refl, sym, ap₂, subst}
+use mathlib.Core.Path.{_≡_, refl}
 use mathlib.Core.Bool.{true, false}
 use mathlib.Core.List.{List}
-use Prim.Native.Nat.{ℕ, _≤_, _<_}
+use Prim.Native.Nat.{ℕ, _≤_}
 use native.Mathlib.Nat.{zero-add}
 use native.Mathlib.Omega.{arith}
-use borrow.Author.Tests.{lt-ltb, le-ltb}
+use lib.Dec.{ltb}
 use lib.ListN.{length}
 use Rattle.text.specs.Lines.{written}
 use Rattle.text.proofs.Laws.{written-fits}
@@ -18,11 +18,11 @@ module _ (s : State) (text buffer : List ℕ) where
   writing-broken b = rw b refl
 
   module _ (b : broken s ≡ false) where
-    pub writing-too-long : length buffer < length text → writtenNo s text buffer ≡ 9
-    writing-too-long h = rw (b, lt-ltb (length buffer) (length text) h) refl
+    pub writing-too-long : ltb (length buffer) (length text) ≡ true → writtenNo s text buffer ≡ 9
+    writing-too-long h = rw (b, h) refl
 
-    pub writing-fits : length text ≤ length buffer → writtenNo s text buffer ≡ 0
-    writing-fits h = rw (b, le-ltb (length buffer) (length text) h) refl
+    pub writing-fits : ltb (length buffer) (length text) ≡ false → writtenNo s text buffer ≡ 0
+    writing-fits h = rw (b, h) refl
 
   -- the text put at the buffer's start
   pub writing-put : length text ≤ length buffer → written 0 text buffer ≡ atStart text buffer

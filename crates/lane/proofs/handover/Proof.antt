@@ -3,6 +3,7 @@ use mathlib.Core.Bool.{false}
 use Prim.Native.Nat.{_≤_}
 use native.Mathlib.Omega.{arith}
 use borrow.Author.Needs.{needs}
+use borrow.Author.Tests.{lt-ltb, le-ltb}
 use lib.ListN.{length}
 use Rattle.lane.specs.Layout.{stateOf}
 use Rattle.lane.specs.Rules.{broken}
@@ -37,7 +38,7 @@ returns-2 c =
     let passed = c .before .before in
     let a = passed .before .before .before .args in
     let s = stateOf (a .l .now) in
-    let n = writing-too-long s (handoverText s) (a .out .now) (unbroken passed) (omega (arith, c .before .text-length .ensures, c .if2 .taken)) in
+    let n = writing-too-long s (handoverText s) (a .out .now) (unbroken passed) (lt-ltb _ _ (omega (arith, c .before .text-length .ensures, c .if2 .taken))) in
     gives-refused (handover-call (a .out .now)) (a .l .now) 9 (sym n) (λ e. omega arith)
 
 -- and the text is not longer than the buffer
@@ -61,7 +62,7 @@ returns-3 c =
     let x = handover-call (a .out .now) in
     let bytes = put .put-text .ensures .0 ∙ writing-put s (handoverText s) (a .out .now) (fitting fits) in
     subst (λ (t : Answer). Gives x (a .l .now) t (a .l .now)) (ap₂ (told 0) (sym (put .put-text .ensures .1)) (sym bytes))
-    (gives-accepted x (a .l .now) (a .l .now) (writing-fits s (handoverText s) (a .out .now) (unbroken passed) (fitting fits)) refl)
+    (gives-accepted x (a .l .now) (a .l .now) (writing-fits s (handoverText s) (a .out .now) (unbroken passed) (le-ltb _ _ (fitting fits))) refl)
 
 pub handover-spec : {M : Type 1} → statement M
 handover-spec =
