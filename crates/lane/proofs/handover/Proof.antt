@@ -1,6 +1,6 @@
 use mathlib.Core.Path.{_≡_, refl, sym, ap₂, _∙_, subst}
 use mathlib.Core.Bool.{false}
-use Prim.Native.Nat.{_≤_}
+use Prim.Native.Nat.{_≤_, _<_}
 use native.Mathlib.Omega.{arith}
 use borrow.Author.Needs.{needs}
 use borrow.Author.Tests.{lt-ltb, le-ltb}
@@ -38,7 +38,8 @@ returns-2 c =
     let passed = c .before .before in
     let a = passed .before .before .before .args in
     let s = stateOf (a .l .now) in
-    let n = writing-too-long s (handoverText s) (a .out .now) (unbroken passed) (lt-ltb _ _ (omega (arith, c .before .text-length .ensures, c .if2 .taken))) in
+    let longer : length (a .out .now) < length (handoverText s) = omega (arith, c .before .text-length .ensures, c .if2 .taken) in
+    let n = writing-too-long s (handoverText s) (a .out .now) (unbroken passed) (lt-ltb _ _ longer) in
     gives-refused (handover-call (a .out .now)) (a .l .now) 9 (sym n) (λ e. omega arith)
 
 -- and the text is not longer than the buffer
