@@ -12,7 +12,7 @@ use Rattle.text.specs.Numbers.{decimal, hexadecimal}
 use Rattle.text.specs.Lines.{line}
 use Rattle.text.proofs.Laws.{length-line, length-hexadecimal}
 use Rattle.lane.specs.Layout.{Words, stateOf}
-use Rattle.lane.specs.Call.{Call, start-call, load-call, enter-call, leave-call, surface-call, cycle-call, read-call, opening-call, text-call, Answer, callNo, callAnswer}
+use Rattle.lane.specs.Call.{Call, start-call, load-call, enter-call, leave-call, surface-call, cycle-call, read-call, opening-call, text-call, handover-call, Answer, callNo, callAnswer}
 use Rattle.lane.proofs.Laws.{text-answers, text-short}
 use Rattle.lane.proofs.CallLaws.{answer-number, two-digits}
 use Rattle.lane.proofs.Answerable.{place-small, gone-small}
@@ -50,6 +50,7 @@ accepted-fits (cycle-call count ws) l z =
     )
 accepted-fits (read-call number) l z = omega arith
 accepted-fits (opening-call g n) l z = omega arith
+accepted-fits (handover-call buffer) l z = omega arith
 accepted-fits (text-call buffer) l z =
     let a = callAnswer (text-call buffer) (stateOf l) in
     omega (

@@ -9,11 +9,12 @@ use lib.Dec.{eqb}
 use lib.ListN.{length}
 use Rattle.lane.specs.State.{State}
 use Rattle.lane.specs.Layout.{Words, stateOf}
-use Rattle.lane.specs.Call.{Call, start-call, load-call, enter-call, leave-call, surface-call, cycle-call, read-call, opening-call, text-call, callNo, callAnswer, callState, Kept}
-use Rattle.lane.proofs.CallLaws.{refused-changes-nothing, answer-number, Outcome, kept as leaves-kept, never-started, accepted-leaves, kept-started, kept-in-order, start-accepted, load-accepted, enter-accepted, leave-accepted, surface-accepted, read-accepted, opening-accepted, text-accepted}
+use Rattle.lane.specs.Call.{Call, start-call, load-call, enter-call, leave-call, surface-call, cycle-call, read-call, opening-call, text-call, handover-call, callNo, callAnswer, callState, Kept}
+use Rattle.lane.proofs.CallLaws.{refused-changes-nothing, answer-number, Outcome, kept as leaves-kept, never-started, accepted-leaves, kept-started, kept-in-order, start-accepted, load-accepted, enter-accepted, leave-accepted, surface-accepted, read-accepted, opening-accepted, text-accepted, handover-accepted}
 use Rattle.lane.proofs.CycleLaws.{cycle-accepted, cycle-runs}
+use Rattle.lane.proofs.HandoverLaws.{taken-lane}
 use Rattle.history.specs.Book.{Book, holding, taken, booked}
-use Rattle.history.specs.Begins.{Begins, from-empty}
+use Rattle.history.specs.Begins.{Begins, from-empty, from-text}
 use Rattle.history.specs.Claims.{InOrder, Kind, begins, loads, surfaces, runs, other, kindOf, CycleClaims}
 use Rattle.history.specs.History.{Wished}
 use Rattle.history.proofs.Books.{put-in, take-out}
@@ -44,6 +45,11 @@ pub begins-agree : {l : Words} {b : Book} → Begins l b → Agree (stateOf l) b
 begins-agree (from-empty l e) =
     let none : stateOf l .carriers ≡ [] = rw e refl in
     record { same = ap (λ cs. record { road = stateOf l .road; tables = stateOf l .tables; carriers = cs }) none; good = empty e none }
+begins-agree (from-text text number l g) = record { same = ap bookOf (g .state); good = by-number (eqb number 0) refl }
+  where
+    by-number : (t : Bool) → eqb number 0 ≡ t → Good (stateOf l)
+    by-number true e = kept (taken-lane text number l g .0 (eqb-true number 0 e))
+    by-number false e = subst (λ (m : Words). Good (stateOf m)) (sym (taken-lane text number l g .1 (eqb-false number 0 e))) (empty refl refl)
 
 -- ---- a call, by the lane's laws
 
@@ -75,6 +81,7 @@ accepted-books (cycle-call count wishes) s counted w z =
 accepted-books (read-call number) s counted w z = (ap bookOf (read-accepted s number), tt)
 accepted-books (opening-call g n) s counted w z = (ap bookOf (opening-accepted s g n), tt)
 accepted-books (text-call buffer) s counted w z = (ap bookOf (text-accepted s buffer), tt)
+accepted-books (handover-call buffer) s counted w z = (ap bookOf (handover-accepted s buffer), tt)
 
 -- of a refused call nothing is claimed
 nothing-claimed : {x : Call} (k : Kind x) (word : ℕ) (b : Book) → CycleClaims k true word b

@@ -21,7 +21,7 @@ use Rattle.lane.specs.declared.Road.{Road}
 use Rattle.lane.specs.State.{State}
 use Rattle.lane.specs.Layout.{Words, stateOf, withCode}
 use Rattle.lane.specs.Calls.{namedCarrier}
-use Rattle.lane.specs.Call.{Call, start-call, load-call, enter-call, leave-call, surface-call, cycle-call, read-call, opening-call, text-call, Answer, meaning, callAnswer, Gives, bare, entered, cycled, readOut, opening, listed}
+use Rattle.lane.specs.Call.{Call, start-call, load-call, enter-call, leave-call, surface-call, cycle-call, read-call, opening-call, text-call, handover-call, Answer, meaning, callAnswer, Gives, bare, entered, cycled, readOut, opening, listed}
 use Rattle.lane.proofs.start.Reads as start-reads
 use Rattle.lane.proofs.load.Reads as load-reads
 use Rattle.lane.proofs.enter.Reads as enter-reads
@@ -31,8 +31,12 @@ use Rattle.lane.proofs.cycle.Reads as cycle-reads
 use Rattle.lane.proofs.read.Reads as read-reads
 use Rattle.lane.proofs.find_opening.Reads as opening-reads
 use Rattle.lane.proofs.lane_text.Reads as text-reads
+use Rattle.lane.proofs.handover.Reads as handover-reads
+use Rattle.lane.proofs.take_over.Reads as take-over-reads
 use Rattle.lane.proofs.CallLaws.{answer-number}
 use Rattle.lane.proofs.Answerable.{gives-some, surface-words, returned, read-exact}
+use Rattle.history.specs.Book.{begunFrom}
+use Rattle.history.specs.Begins.{Begins, from-text}
 use Rattle.history.specs.Claims.{kindOf}
 use Rattle.history.specs.History.{Event, OfLane, OfBoth, Did, Ran, none-yet, then, Typed, AllTyped, HistoryOf}
 
@@ -106,6 +110,10 @@ did (text-call buffer) l t =
     let x = text-call buffer in
     let r = returned x (stateOf l) in
     (gives-some x l .2 refl, lends-both (r .0, r .1, reads-as x l refl (r .1)))
+did (handover-call buffer) l t =
+    let x = handover-call buffer in
+    let r = returned x (stateOf l) in
+    (gives-some x l .2 refl, lends-both (r .0, r .1, reads-as x l refl (r .1)))
 
 pub every-list : (l : Words) (xs : List Call) → AllTyped xs → HistoryOf l xs
 every-list l [] t = record { events = []; last = l; calls = refl; ran = none-yet }
@@ -121,7 +129,7 @@ every-list l (x ∷ xs) t =
 -- ---- whatever a contract says is a step of a history
 
 -- for every reference and every argument a contract asks nothing of its caller, and what it then says of an answer and of the lane left is a
--- step; and every step may go before every list
+-- step, or for `take_over` the beginning of a list; and every step may go before every list
 pub each-contract : (κ : Lfts 1) (κs : Lfts 2) (l : RefT Words) (m : Words) (road : Road) (c : Carrier) (n : ℕ) (ws : List Wish) (g : Gap) (newcomer : Newcomer) (out : RefT (List ℕ))
     → (start-reads.Asked κ (l, (road, (n, tt))) × ((no : ℕ) → start-reads.Learnt κ (l, (road, (n, tt))) no (at-last l m, (road, (n, tt))) → Did (start-call road n) (now l) (bare no []) m))
     × (load-reads.Asked κs (l, (out, tt)) × ((no : ℕ) → load-reads.Learnt κs (l, (out, tt)) no (at-last l m, (out, tt)) → Did (load-call (now out)) (now l) (bare no []) m))
@@ -132,6 +140,8 @@ pub each-contract : (κ : Lfts 1) (κs : Lfts 2) (l : RefT Words) (m : Words) (r
     × (read-reads.Asked κ (l, (n, tt)) × ((r : ReadOut) → read-reads.Learnt κ (l, (n, tt)) r (l, (n, tt)) → Did (read-call n) (now l) (readOut r) (now l)))
     × (opening-reads.Asked κ (l, (g, (newcomer, tt))) × ((r : Opening) → opening-reads.Learnt κ (l, (g, (newcomer, tt))) r (l, (g, (newcomer, tt))) → Did (opening-call g newcomer) (now l) (opening r) (now l)))
     × (text-reads.Asked κs (l, (out, tt)) × ((r : Listed) (bytes : List ℕ) → text-reads.Learnt κs (l, (out, tt)) r (l, (at-last out bytes, tt)) → Did (text-call (now out)) (now l) (listed r bytes) (now l)))
+    × (handover-reads.Asked κs (l, (out, tt)) × ((r : Listed) (bytes : List ℕ) → handover-reads.Learnt κs (l, (out, tt)) r (l, (at-last out bytes, tt)) → Did (handover-call (now out)) (now l) (listed r bytes) (now l)))
+    × (take-over-reads.Asked κs (l, (out, tt)) × ((no : ℕ) → take-over-reads.Learnt κs (l, (out, tt)) no (at-last l m, (out, tt)) → Begins m (begunFrom (now out))))
     × ((e : Event) (es : List Event) (d : Words) → Did (e .call) (now l) (e .answer) (e .left) → Ran (e .left) es d → Ran (now l) (e ∷ es) d)
 each-contract κ κs l m road c n ws g newcomer out = (
   (tt, λ no s. of-lane κ l (no, refl, s)),
@@ -143,5 +153,7 @@ each-contract κ κs l m road c n ws g newcomer out = (
   (tt, λ r s. (refl, of-lane κ l (r, refl, s))),
   (tt, λ r s. (refl, of-lane κ l (r, refl, s))),
   (tt, λ r bytes s. (refl, of-both κs l out (r, refl, s))),
+  (tt, λ r bytes s. (refl, of-both κs l out (r, refl, s))),
+  (tt, λ no s. from-text (now out) no m s),
   λ e es d h r. then h r,
 )

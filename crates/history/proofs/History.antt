@@ -5,7 +5,7 @@ use native.Mathlib.Omega.{arith}
 use mathlib.Core.Path.{_≡_, sym, ap, subst}
 use mathlib.Core.List.{List}
 use Rattle.lane.specs.Layout.{Words, stateOf}
-use Rattle.lane.specs.Call.{Call, start-call, load-call, enter-call, leave-call, surface-call, cycle-call, read-call, opening-call, text-call, Answer, Gives}
+use Rattle.lane.specs.Call.{Call, start-call, load-call, enter-call, leave-call, surface-call, cycle-call, read-call, opening-call, text-call, handover-call, Answer, Gives}
 use Rattle.history.specs.Book.{Book, booked}
 use Rattle.history.specs.Begins.{Begins}
 use Rattle.history.specs.Claims.{kindOf, Claims}
@@ -36,6 +36,9 @@ gives (opening-call g n) l a m d = (read-of (d .0) (d .1 .before) (d .1 .says .1
 gives (text-call buffer) l a m d =
     let g = d .1 .says .2 in
     (subst (λ (b : List ℕ). Gives (text-call b) l a m) (d .1 .lent) (read-of (d .0) (d .1 .before) (d .1 .says .1) g), tt)
+gives (handover-call buffer) l a m d =
+    let g = d .1 .says .2 in
+    (subst (λ (b : List ℕ). Gives (handover-call b) l a m) (d .1 .lent) (read-of (d .0) (d .1 .before) (d .1 .says .1) g), tt)
 
 pub ran-gives : {l d : Words} {es : List Event} → Ran l es d → Chain l es d
 ran-gives none-yet = chain-end

@@ -12,8 +12,8 @@ use Rattle.lane.specs.Surface.{houseRows, rowOf, Tables}
 use Rattle.lane.specs.State.{State}
 use Rattle.lane.specs.Layout.{Words, stateOf, emptyWords}
 use Rattle.lane.specs.Table.{tableIn, rowsLoaded}
-use Rattle.lane.specs.Call.{Call, start-call, load-call, enter-call, leave-call, surface-call, cycle-call, read-call, opening-call, text-call, Answer, callNo, callState, Gives}
-use Rattle.lane.proofs.CallLaws.{refused-changes-nothing, answer-number, empty-state, start-accepted, load-accepted, enter-accepted, leave-accepted, surface-accepted, read-accepted, opening-accepted, text-accepted}
+use Rattle.lane.specs.Call.{Call, start-call, load-call, enter-call, leave-call, surface-call, cycle-call, read-call, opening-call, text-call, handover-call, Answer, callNo, callState, Gives}
+use Rattle.lane.proofs.CallLaws.{refused-changes-nothing, answer-number, empty-state, start-accepted, load-accepted, enter-accepted, leave-accepted, surface-accepted, read-accepted, opening-accepted, text-accepted, handover-accepted}
 use Rattle.lane.proofs.CycleLaws.{cycle-accepted}
 use Rattle.history.specs.Claims.{Kind, begins, loads, surfaces, runs, other, kindOf}
 use Rattle.history.specs.History.{Event, laneAfter, Ran, Chain, chain-end, chain-next, isStart, isLoad, isSurface, startsLane, loadsRows, NoneOf, LoadedRowsServe, SurfaceServes}
@@ -47,6 +47,7 @@ accepted-ground (cycle-call count wishes) s z = ap groundOf (cycle-accepted s co
 accepted-ground (read-call number) s z = ap groundOf (read-accepted s number)
 accepted-ground (opening-call g n) s z = ap groundOf (opening-accepted s g n)
 accepted-ground (text-call buffer) s z = ap groundOf (text-accepted s buffer)
+accepted-ground (handover-call buffer) s z = ap groundOf (handover-accepted s buffer)
 
 -- what holds of the ground and is kept by every kind of call but some holds after a list with no accepted call of those
 module _ (P : Ground → Type 0) (touches : (x : Call) → Kind x → Bool)

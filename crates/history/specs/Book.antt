@@ -17,7 +17,8 @@ use Rattle.lane.specs.declared.Road.{Road}
 use Rattle.lane.specs.Surface.{Tables, rowIn}
 use Rattle.lane.specs.Layout.{Words, stateOf}
 use Rattle.lane.specs.Table.{tableIn, rowsLoaded}
-use Rattle.lane.specs.Call.{Call, start-call, load-call, enter-call, leave-call, surface-call, cycle-call, read-call, opening-call, text-call}
+use Rattle.lane.specs.Handover.{takenOver}
+use Rattle.lane.specs.Call.{Call, start-call, load-call, enter-call, leave-call, surface-call, cycle-call, read-call, opening-call, text-call, handover-call}
 
 -- "It is fed with each call with its arguments and, of the answers, only whether the call was refused and a cycle's word."
 pub record Seen : Type 0 where
@@ -36,6 +37,10 @@ pub record Book : Type 0 where
 -- the book that goes with an empty lane; T-01: with the rows "at first as the empty lane has them"
 abbrev pub begun : Words → Book
 begun l = record { road = stateOf l .road; tables = stateOf l .tables; carriers = [] }
+
+-- T-08: "the road book then begins with what the text holds, carriers included"; a refused reading "gives an empty lane"
+abbrev pub begunFrom : (text : List ℕ) → Book
+begunFrom text = record { road = takenOver text .road; tables = takenOver text .tables; carriers = takenOver text .carriers }
 
 -- the book with other carriers
 abbrev pub holding : Book → List Carrier → Book
@@ -105,7 +110,8 @@ taken (cycle-call count wishes) word b =
 taken (read-call number) word b = b
 taken (opening-call g n) word b = b
 taken (text-call buffer) word b = b
+taken (handover-call buffer) word b = b
 
--- "Read, lane text and every refused call: nothing changes."; T-07, of an opening: "the lane isn't changed"
+-- "Read, lane text and every refused call: nothing changes."; T-07, of an opening: "the lane isn't changed"; nor does a handover change it
 abbrev pub booked : Seen → Book → Book
 booked s b = cond (s .refused) b (taken (s .call) (s .word) b)

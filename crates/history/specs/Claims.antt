@@ -17,7 +17,7 @@ use Rattle.lane.specs.declared.Road.{Road}
 use Rattle.lane.specs.Surface.{rowOf, rowIn}
 use Rattle.lane.specs.Layout.{Words, stateOf}
 use Rattle.lane.specs.Calls.{none}
-use Rattle.lane.specs.Call.{Call, start-call, load-call, enter-call, leave-call, surface-call, cycle-call, read-call, opening-call, text-call}
+use Rattle.lane.specs.Call.{Call, start-call, load-call, enter-call, leave-call, surface-call, cycle-call, read-call, opening-call, text-call, handover-call}
 use Rattle.history.specs.Book.{Seen, Book, trimmedIn, guaranteedIn, drivenIn, booked}
 
 -- the carrier at a place: "Ahead means nearer the book's front; next ahead, the place just before."
@@ -89,6 +89,7 @@ kindOf (cycle-call count ws) = runs count ws
 kindOf (read-call number) = other (read-call number)
 kindOf (opening-call g n) = other (opening-call g n)
 kindOf (text-call buffer) = other (text-call buffer)
+kindOf (handover-call buffer) = other (handover-call buffer)
 
 -- "A cycle run is one not refused." What is claimed of it, with the book as at its start
 abbrev pub CycleClaims : {x : Call} → Kind x → (refused : Bool) → (word : ℕ) → Book → Type 0

@@ -17,7 +17,7 @@ use Rattle.lane.specs.Limits.{lastSurface}
 use Rattle.lane.specs.Surface.{rowOf, rowIn}
 use Rattle.lane.specs.Layout.{Words, stateOf}
 use Rattle.lane.specs.Table.{tableIn, rowsLoaded}
-use Rattle.lane.specs.Call.{Call, start-call, load-call, enter-call, leave-call, surface-call, cycle-call, read-call, opening-call, text-call, Answer, bare, entered, cycled, readOut, opening, listed, Gives}
+use Rattle.lane.specs.Call.{Call, start-call, load-call, enter-call, leave-call, surface-call, cycle-call, read-call, opening-call, text-call, handover-call, Answer, bare, entered, cycled, readOut, opening, listed, Gives}
 use Rattle.lane.proofs.start.Reads as start-reads
 use Rattle.lane.proofs.load.Reads as load-reads
 use Rattle.lane.proofs.enter.Reads as enter-reads
@@ -27,6 +27,7 @@ use Rattle.lane.proofs.cycle.Reads as cycle-reads
 use Rattle.lane.proofs.read.Reads as read-reads
 use Rattle.lane.proofs.find_opening.Reads as opening-reads
 use Rattle.lane.proofs.lane_text.Reads as text-reads
+use Rattle.lane.proofs.handover.Reads as handover-reads
 use Rattle.history.specs.Book.{Seen, Book, booked}
 use Rattle.history.specs.Claims.{Kind, begins, loads, surfaces, runs, other, kindOf, carrierAt, SafeOn, Claims}
 
@@ -89,6 +90,9 @@ Did (opening-call g n) l a m =
 Did (text-call buffer) l a m =
     (m ≡ l)
     × OfBoth l buffer (λ κs lane out. (r : Listed) × (a ≡ listed r (a .bytes)) × text-reads.Learnt κs (lane, (out, tt)) r (lane, (at-last out (a .bytes), tt)))
+Did (handover-call buffer) l a m =
+    (m ≡ l)
+    × OfBoth l buffer (λ κs lane out. (r : Listed) × (a ≡ listed r (a .bytes)) × handover-reads.Learnt κs (lane, (out, tt)) r (lane, (at-last out (a .bytes), tt)))
 
 -- a list of calls, each on the lane that the one before left, each answered as its contract says
 pub data Ran : Words → List Event → Words → Type 0 where
