@@ -20,16 +20,20 @@ use Rattle.wish.specs.declared.Wish.{Wish}
 use Rattle.wish.specs.declared.Wish.the-variants.{Hold}
 use Rattle.lane.specs.declared.Carrier.{Carrier}
 use Rattle.lane.specs.declared.Road.{Road}
+use Rattle.lane.specs.Limits.{lastCycle}
 use Rattle.lane.specs.Surface.{rowIn}
 use Rattle.lane.specs.Layout.{Words, stateOf}
 use Rattle.lane.specs.Calls.{none}
-use Rattle.lane.specs.Call.{Call, start-call, cycle-call, read-call, Answer, callNo, Kept}
+use Rattle.lane.specs.Handover.{TakesOver}
+use Rattle.lane.specs.Call.{Call, start-call, cycle-call, read-call, handover-call, Answer, callNo, Kept}
 use Rattle.lane.proofs.CallLaws.{answer-number, kept-not-21}
-use Rattle.history.specs.Book.{Seen, Book, trimmedIn, guaranteedIn, drivenIn, booked}
-use Rattle.history.specs.Begins.{Begins}
+use Rattle.lane.proofs.HandoverLaws.{taken-lane}
+use Rattle.history.specs.Book.{Seen, Book, begunFrom, trimmedIn, guaranteedIn, drivenIn, booked}
+use Rattle.history.specs.Begins.{Begins, from-text}
 use Rattle.history.specs.Claims.{Kind, begins, loads, surfaces, runs, other, kindOf, carrierAt, placeAt, restsLevelOrCrossed, Claims}
-use Rattle.history.specs.History.{Event, callsIn, seen, bookOn, Ran, Typed, AllTyped, startsLane, Chain, chain-end, chain-next, Throughout, SurfaceChanges, NeverBroken}
+use Rattle.history.specs.History.{Event, callsIn, seen, bookOn, Ran, Typed, AllTyped, startsLane, laneAfter, Chain, chain-end, chain-next, Throughout, SurfaceChanges, NeverBroken}
 use Rattle.history.specs.Openings.{Openings}
+use Rattle.history.specs.Handovers.{textHanded, Handovers}
 use Rattle.history.proofs.Bits.{below-power}
 use Rattle.history.proofs.Books.{driven-at, driven-at-least}
 use Rattle.history.proofs.Fronts.{front-below}
@@ -38,6 +42,7 @@ use Rattle.history.proofs.History.{ran-gives, history}
 use Rattle.history.proofs.Answered.{every-list}
 use Rattle.history.proofs.Changes.{surface-changes}
 use Rattle.history.proofs.Openings.{openings}
+use Rattle.history.proofs.Handovers.{handovers}
 
 -- what is claimed throughout is claimed of every call of the list, at the lane and the book that the calls before it have left
 pub at-each-call : (b : Book) (before : List Event) (e : Event) (later : List Event) → Throughout b (before ++ (e ∷ later))
@@ -192,10 +197,10 @@ trimmed-by-the-row b c w z e = rw e refl
 -- throughout it, and of its changes of surface and its openings
 pub every-list-claimed : (l : Words) (b : Book) → Begins l b → (xs : List Call)
     → ((i count : ℕ) (ws : List Wish) → getD xs i (read-call 0) ≡ cycle-call count ws → length ws ≡ 64)
-    → (es : List Event) × (d : Words) × Ran l es d × (callsIn es ≡ xs) × Throughout b es × SurfaceChanges l b es × Openings l b es
+    → (es : List Event) × (d : Words) × Ran l es d × (callsIn es ≡ xs) × Throughout b es × SurfaceChanges l b es × Openings l b es × Handovers l b es
 every-list-claimed l b how xs sixty-four =
     let h = every-list l xs (all-typed xs sixty-four) in
-    (h .events, h .last, h .ran, h .calls, history l b how (h .events) (h .last) (h .ran), surface-changes l b how (h .events) (h .last) (h .ran), openings l b how (h .events) (h .last) (h .ran))
+    (h .events, h .last, h .ran, h .calls, history l b how (h .events) (h .last) (h .ran), surface-changes l b how (h .events) (h .last) (h .ran), openings l b how (h .events) (h .last) (h .ran), handovers l b how (h .events) (h .last) (h .ran))
   where
     typed : {x : Call} (k : Kind x) → ((count : ℕ) (ws : List Wish) → x ≡ cycle-call count ws → length ws ≡ 64) → Typed k
     typed (begins road first) h = tt
@@ -249,3 +254,26 @@ started-for-good l d before e between f after r road first is-start accepted =
     later started (x ∷ first) rest n =
         let k = later (started || startsLane x) first rest (n .1) in
         (k .0, λ q. k .1 (rw q refl), k .2)
+
+-- ---- of a lane that is handed on
+
+-- once a text is taken over no call gives 21
+pub taken-for-good : (text : List ℕ) (l : Words) → TakesOver text 0 l → (es : List Event) (d : Words) → Ran l es d → NeverBroken true es
+taken-for-good text l g es d r = chain-kept-never-broken (taken-lane text 0 l g .0 refl) (ran-gives r)
+
+-- a list in which the lane is handed over, and one that another host runs on the lane that it took over from that text: there demand 3 holds with the
+-- book as it stood at the handover, and no call gives 21
+pub handed-on : (l : Words) (b : Book) → Begins l b → (es : List Event) (d : Words) → Ran l es d
+    → (before : List Event) (hand : Event) (later : List Event) (buffer : List ℕ) → es ≡ before ++ (hand ∷ later)
+    → hand .call ≡ handover-call buffer → hand .answer .number ≡ 0 → stateOf (laneAfter l before) .cycle ≤ lastCycle
+    → (number : ℕ) (m : Words) → TakesOver (textHanded hand) number m → (fs : List Event) (f : Words) → Ran m fs f
+    → (number ≡ 0) × (stateOf m ≡ stateOf (laneAfter l before)) × Throughout (bookOn b before) fs × NeverBroken true fs
+handed-on l b how es d r before hand later buffer is is-hand accepted h number m g fs f q =
+    let text = textHanded hand in
+    let told = handovers l b how es d r .1 before hand later buffer is is-hand accepted h in
+    let zero = g .number-is ∙ told .0 in (
+      zero,
+      g .state ∙ told .1,
+      subst (λ (c : Book). Throughout c fs) (told .2) (history m (begunFrom text) (from-text text number m g) fs f q),
+      taken-for-good text m (subst (λ (n : ℕ). TakesOver text n m) zero g) fs f q,
+    )

@@ -4,3 +4,4 @@ pub mod Claims
 pub mod History
 pub mod Openings
 pub mod Beginnings
+pub mod Handovers

@@ -19,7 +19,7 @@ use Rattle.lane.specs.declared.ReadOut.{ReadOut}
 use Rattle.lane.specs.declared.Road.{Road}
 use Rattle.lane.specs.Layout.{Words, stateOf, emptyWords}
 use Rattle.lane.specs.Calls.{ifAccepted, readyNo}
-use Rattle.lane.specs.Call.{Call, start-call, load-call, enter-call, leave-call, surface-call, cycle-call, read-call, opening-call, text-call, Answer, bare, entered, cycled, readOut, opening, listed, callAnswer}
+use Rattle.lane.specs.Call.{Call, start-call, load-call, enter-call, leave-call, surface-call, cycle-call, read-call, opening-call, text-call, handover-call, Answer, bare, entered, cycled, readOut, opening, listed, callAnswer}
 use Rattle.lane.specs.Given.{wishesNo, wishesGiven, GivesWith}
 use Rattle.lane.proofs.Answerable.{gives-some, returned, read-exact}
 use Rattle.history.specs.Book.{Book, begun}
@@ -31,7 +31,7 @@ use Rattle.console.specs.declared.Stepped.{Stepped}
 use Rattle.console.specs.History.{blockRun}
 use Rattle.console.proofs.Answered.{every-step}
 use Rattle.host.specs.Gaps.{gapGiven}
-use Rattle.host.proofs.Calls.{HostCall, starts, loads, enters, leaves, surfaces, cycles, reads, finds, lists, steps, eventsMade, stepAnswer, Cycles, HostDid, HostRan, nothing-yet, call, allMade, Emptied}
+use Rattle.host.proofs.Calls.{HostCall, starts, loads, enters, leaves, surfaces, cycles, reads, finds, lists, hands, steps, eventsMade, stepAnswer, Cycles, HostDid, HostRan, nothing-yet, call, allMade, Emptied, TookOver}
 use Rattle.host.proofs.History.{host-history, host-history-from-empty, host-surface-changes, host-openings, host-calls, host-never-broken}
 use Rattle.host.proofs.rondavitse_empty.Reads as empty-reads
 use Rattle.host.proofs.rondavitse_start.Reads as start-reads
@@ -43,6 +43,8 @@ use Rattle.host.proofs.rondavitse_cycle.Reads as cycle-reads
 use Rattle.host.proofs.rondavitse_read.Reads as read-reads
 use Rattle.host.proofs.rondavitse_find_opening.Reads as opening-reads
 use Rattle.host.proofs.rondavitse_lane_text.Reads as text-reads
+use Rattle.host.proofs.rondavitse_handover.Reads as handover-reads
+use Rattle.host.proofs.rondavitse_take_over.Reads as take-over-reads
 use Rattle.host.proofs.rondavitse_step.Reads as step-reads
 
 -- ---- every list has a history
@@ -127,6 +129,14 @@ host-does (lists buffer) l =
       after = left x l;
       did = (gives-some x l .2 refl, lends-both (r .0, refl, reads-as x l refl (r .1)));
     }
+host-does (hands buffer) l =
+    let x = handover-call buffer in
+    let r = returned x (stateOf l) in
+    record {
+      answer = listed (r .0) (callAnswer x (stateOf l) .bytes);
+      after = left x l;
+      did = (gives-some x l .2 refl, lends-both (r .0, refl, reads-as x l refl (r .1)));
+    }
 host-does (steps input at buffer) l =
     let a = every-step l (drop at input) at buffer in
     record {
@@ -179,13 +189,13 @@ every-host-list-from-empty xs =
 
 -- each exported call may stand in a list, with any arguments
 pub each-host-call : (l : Words) (road : Road) (first : ℕ) (table : List ℕ) (c : Carrier) (number code count head : ℕ) (newcomer : Newcomer) (sorts values buffer input : List ℕ) (at : ℕ)
-    → HostHistoryOf l (starts road first ∷ loads table ∷ enters c ∷ leaves number ∷ surfaces code ∷ cycles count sorts values ∷ reads number ∷ finds head number newcomer ∷ lists buffer ∷ steps input at buffer ∷ [])
+    → HostHistoryOf l (starts road first ∷ loads table ∷ enters c ∷ leaves number ∷ surfaces code ∷ cycles count sorts values ∷ reads number ∷ finds head number newcomer ∷ lists buffer ∷ hands buffer ∷ steps input at buffer ∷ [])
 each-host-call l road first table c number code count head newcomer sorts values buffer input at = every-host-list l _
 
 -- ---- whatever a contract says is a step of a list
 
 -- for every reference and every argument a contract asks nothing of its caller, and what it then says of an answer and of the lane left is a
--- step, or for `rondavitse_empty` the beginning of a list; and every step may go before every list
+-- step, or for `rondavitse_empty` and `rondavitse_take_over` the beginning of a list; and every step may go before every list
 pub each-contract : (κ : Lfts 1) (κs : Lfts 2) (ks : Lfts 3) (l : RefT Words) (m : Words) (road : Road) (c : Carrier) (n head : ℕ) (newcomer : Newcomer) (sorts values text out : RefT (List ℕ)) (at : ℕ)
     → (empty-reads.Asked κ (l, tt) × (empty-reads.Learnt κ (l, tt) tt (at-last l m, tt) → Emptied m))
     × (start-reads.Asked κ (l, (road, (n, tt))) × ((no : ℕ) → start-reads.Learnt κ (l, (road, (n, tt))) no (at-last l m, (road, (n, tt))) → HostDid (starts road n) (now l) (bare no []) m))
@@ -197,6 +207,8 @@ pub each-contract : (κ : Lfts 1) (κs : Lfts 2) (ks : Lfts 3) (l : RefT Words) 
     × (read-reads.Asked κ (l, (n, tt)) × ((r : ReadOut) → read-reads.Learnt κ (l, (n, tt)) r (l, (n, tt)) → HostDid (reads n) (now l) (readOut r) (now l)))
     × (opening-reads.Asked κ (l, (head, (n, (newcomer, tt)))) × ((r : Opening) → opening-reads.Learnt κ (l, (head, (n, (newcomer, tt)))) r (l, (head, (n, (newcomer, tt)))) → HostDid (finds head n newcomer) (now l) (opening r) (now l)))
     × (text-reads.Asked κs (l, (out, tt)) × ((r : Listed) (bytes : List ℕ) → text-reads.Learnt κs (l, (out, tt)) r (l, (at-last out bytes, tt)) → HostDid (lists (now out)) (now l) (listed r bytes) (now l)))
+    × (handover-reads.Asked κs (l, (out, tt)) × ((r : Listed) (bytes : List ℕ) → handover-reads.Learnt κs (l, (out, tt)) r (l, (at-last out bytes, tt)) → HostDid (hands (now out)) (now l) (listed r bytes) (now l)))
+    × (take-over-reads.Asked κs (l, (text, tt)) × ((no : ℕ) → take-over-reads.Learnt κs (l, (text, tt)) no (at-last l m, (text, tt)) → TookOver (now text) no m))
     × (step-reads.Asked ks (l, (text, (at, (out, tt)))) × ((r : Stepped) (left : List ℕ) → step-reads.Learnt ks (l, (text, (at, (out, tt)))) r (at-last l m, (text, (at, (at-last out left, tt)))) → HostDid (steps (now text) at (now out)) (now l) (stepAnswer (blockRun (now out) (drop at (now text))) (stateOf (now l))) m))
     × ((x : HostCall) (a : Answer) (xs : List HostCall) (fs : List Event) (d : Words) → HostDid x (now l) a m → HostRan m xs fs d → HostRan (now l) (x ∷ xs) (eventsMade x a m ++ fs) d)
 each-contract κ κs ks l m road c n head newcomer sorts values text out at = (
@@ -210,6 +222,8 @@ each-contract κ κs ks l m road c n head newcomer sorts values text out at = (
   (tt, λ r s. (refl, of-lane κ l (r, refl, s))),
   (tt, λ r s. (refl, of-lane κ l (r, refl, s))),
   (tt, λ r bytes s. (refl, of-both κs l out (r, refl, s))),
+  (tt, λ r bytes s. (refl, of-both κs l out (r, refl, s))),
+  (tt, λ no s. record { κs = κs; lane = l; read = text; text-is = refl; says = s }),
   (tt, λ r left s. (refl, record { κs = ks; lane = l; text = text; out = out; before = refl; text-is = refl; lent = refl; r = r; left = left; says = s })),
   λ x a xs fs d h r. call a h r,
 )

@@ -18,7 +18,7 @@ use Rattle.lane.specs.declared.ReadOut.{ReadOut}
 use Rattle.lane.specs.declared.Road.{Road}
 use Rattle.lane.specs.State.{State}
 use Rattle.lane.specs.Layout.{Words, stateOf}
-use Rattle.lane.specs.Call.{Call, start-call, load-call, enter-call, leave-call, surface-call, cycle-call, read-call, opening-call, text-call, Answer, bare, callAnswer, entered, cycled, readOut, opening, listed}
+use Rattle.lane.specs.Call.{Call, start-call, load-call, enter-call, leave-call, surface-call, cycle-call, read-call, opening-call, text-call, handover-call, Answer, bare, callAnswer, entered, cycled, readOut, opening, listed}
 use Rattle.lane.specs.Given.{wishesNo, wishesGiven}
 use Rattle.console.specs.declared.Stepped.{Stepped}
 use Rattle.console.specs.Blocks.{Parsed, parsed, malformed}
@@ -35,6 +35,8 @@ use Rattle.host.proofs.rondavitse_cycle.Reads as cycle-reads
 use Rattle.host.proofs.rondavitse_read.Reads as read-reads
 use Rattle.host.proofs.rondavitse_find_opening.Reads as opening-reads
 use Rattle.host.proofs.rondavitse_lane_text.Reads as text-reads
+use Rattle.host.proofs.rondavitse_handover.Reads as handover-reads
+use Rattle.host.proofs.rondavitse_take_over.Reads as take-over-reads
 use Rattle.host.proofs.rondavitse_step.Reads as step-reads
 
 -- an exported call with its arguments, but for the lane: numbers, and the bytes of what is lent
@@ -48,6 +50,7 @@ pub data HostCall : Type 0 where
   reads : (number : ℕ) → HostCall
   finds : (head number : ℕ) → Newcomer → HostCall
   lists : (buffer : List ℕ) → HostCall
+  hands : (buffer : List ℕ) → HostCall
   steps : (input : List ℕ) → (at : ℕ) → (buffer : List ℕ) → HostCall
 
 -- the calls of the lane that it is, one or none: of a step that of its block, of a cycle one with the wishes that are given, where they can be made
@@ -61,6 +64,7 @@ callsMade (cycles count sorts values) = cond (eqb (wishesNo count sorts values) 
 callsMade (reads number) = read-call number ∷ []
 callsMade (finds head number n) = opening-call (gapGiven head number) n ∷ []
 callsMade (lists buffer) = text-call buffer ∷ []
+callsMade (hands buffer) = handover-call buffer ∷ []
 callsMade (steps input at buffer) = callsWith (blockRun buffer (drop at input)) (λ used. [])
 
 -- those calls, answered so, with the lane that was left
@@ -116,6 +120,9 @@ HostDid (finds head number n) l a m =
 HostDid (lists buffer) l a m =
     (m ≡ l)
     × OfBoth l buffer (λ κs lane out. (r : Listed) × (a ≡ listed r (a .bytes)) × text-reads.Learnt κs (lane, (out, tt)) r (lane, (at-last out (a .bytes), tt)))
+HostDid (hands buffer) l a m =
+    (m ≡ l)
+    × OfBoth l buffer (λ κs lane out. (r : Listed) × (a ≡ listed r (a .bytes)) × handover-reads.Learnt κs (lane, (out, tt)) r (lane, (at-last out (a .bytes), tt)))
 HostDid (steps input at buffer) l a m = (a ≡ stepAnswer (blockRun buffer (drop at input)) (stateOf l)) × Steps l input at buffer m
 
 -- a list of exported calls, each on the lane that the one before left and answered as its contract says, and the calls of the lane that
@@ -135,3 +142,11 @@ pub record Emptied (l : Words) : Type 0 where
   pub κs : Lfts 1
   pub lane : RefT Words
   pub says : empty-reads.Learnt κs (lane, tt) tt (at-last lane l, tt)
+
+-- what that of `rondavitse_take_over` says of it, with the text that was read and the number answered
+pub record TookOver (text : List ℕ) (number : ℕ) (l : Words) : Type 0 where
+  pub κs : Lfts 2
+  pub lane : RefT Words
+  pub read : RefT (List ℕ)
+  pub text-is : now read ≡ text
+  pub says : take-over-reads.Learnt κs (lane, (read, tt)) number (at-last lane l, (read, tt))

@@ -8,11 +8,12 @@ use denote.Ref.{now}
 use lib.Dec.{eqb}
 use lib.ListN.{drop}
 use Rattle.lane.specs.Layout.{Words, stateOf, emptyWords}
-use Rattle.lane.specs.Call.{Call, load-call, cycle-call, text-call, Answer, cycled, Gives}
+use Rattle.lane.specs.Call.{Call, load-call, cycle-call, text-call, handover-call, Answer, cycled, Gives}
 use Rattle.lane.specs.Given.{wishesNo, wishesGiven, GivesWith}
+use Rattle.lane.specs.Handover.{TakesOver}
 use Rattle.lane.proofs.Laws.{wishes-enough}
-use Rattle.history.specs.Book.{Book, begun}
-use Rattle.history.specs.Begins.{Begins, from-empty}
+use Rattle.history.specs.Book.{Book, begun, begunFrom}
+use Rattle.history.specs.Begins.{Begins, from-empty, from-text}
 use Rattle.history.specs.History.{Event, callsIn, Chain, chain-end, chain-next, Throughout, LoadedRowsServe, SurfaceChanges, NeverBroken}
 use Rattle.history.specs.Openings.{Openings}
 use Rattle.history.proofs.History.{given-of, read-of, chain-history}
@@ -23,7 +24,7 @@ use Rattle.history.proofs.Openings.{chain-openings}
 use Rattle.console.specs.Blocks.{Parsed, parsed, malformed}
 use Rattle.console.specs.History.{blockRun, eventsOf, callsWith}
 use Rattle.console.proofs.Calls.{step-chain}
-use Rattle.host.proofs.Calls.{HostCall, starts, loads, enters, leaves, surfaces, cycles, reads, finds, lists, steps, callsMade, eventsMade, stepAnswer, HostDid, HostRan, nothing-yet, call, allMade, Emptied}
+use Rattle.host.proofs.Calls.{HostCall, starts, loads, enters, leaves, surfaces, cycles, reads, finds, lists, hands, steps, callsMade, eventsMade, stepAnswer, HostDid, HostRan, nothing-yet, call, allMade, Emptied, TookOver}
 
 -- a cycle by its wishes: one whose wishes cannot be made is no call
 one-cycle : (count : ℕ) (sorts values : List ℕ) {l m d : Words} {a : Answer} {fs : List Event} → HostDid (cycles count sorts values) l a m → Chain m fs d
@@ -59,6 +60,9 @@ one-call (finds head number n) a h c = chain-next (read-of (h .0) (h .1 .before)
 one-call (lists buffer) {l} {m} a h c =
     let g = read-of (h .0) (h .1 .before) (h .1 .says .1) (h .1 .says .2) in
     chain-next (subst (λ (b : List ℕ). Gives (text-call b) l a m) (h .1 .lent) g) tt c
+one-call (hands buffer) {l} {m} a h c =
+    let g = read-of (h .0) (h .1 .before) (h .1 .says .1) (h .1 .says .2) in
+    chain-next (subst (λ (b : List ℕ). Gives (handover-call b) l a m) (h .1 .lent) g) tt c
 one-call (steps input at buffer) {l} {m} {d} a {fs} (e, s) c =
     let g = rw (s .before, s .text-is, s .lent) at (s .says) in
     rw (e, ← step-event (blockRun buffer (drop at input)) l m) (step-chain l m d (drop at input) fs g c)
@@ -74,6 +78,14 @@ host-history l b how xs es d r = chain-history l b how es d (is-chain r)
 -- and from the lane that `rondavitse_empty` gives
 pub host-history-from-empty : (l : Words) → Emptied l → (xs : List HostCall) (es : List Event) (d : Words) → HostRan l xs es d → Throughout (begun emptyWords) es
 host-history-from-empty l e xs es d r = subst (λ (k : Words). Throughout (begun k) es) (e .says) (host-history l (begun l) (from-empty l (rw (e .says) refl)) xs es d r)
+
+-- and from one that `rondavitse_take_over` gives, with the book that its text holds
+pub took-over-begins : {text : List ℕ} {number : ℕ} {l : Words} → TookOver text number l → Begins l (begunFrom text)
+took-over-begins {text} {number} {l} t = from-text text number l (subst (λ (u : List ℕ). TakesOver u number l) (t .text-is) (t .says))
+
+pub host-history-from-text : (text : List ℕ) (number : ℕ) (l : Words) → TookOver text number l → (xs : List HostCall) (es : List Event) (d : Words) → HostRan l xs es d
+    → Throughout (begunFrom text) es
+host-history-from-text text number l t xs es d r = host-history l (begunFrom text) (took-over-begins t) xs es d r
 
 -- rows that `rondavitse_load` brought are in force from the next accepted start to the one after it
 pub host-loaded-rows-serve : (l : Words) (xs : List HostCall) (es : List Event) (d : Words) → HostRan l xs es d → LoadedRowsServe es

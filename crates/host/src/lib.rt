@@ -6,8 +6,9 @@ ghost use lib.Ieee.Exact.{HasValue};
 ghost use lib.ListN.{drop};
 ghost use Rattle.lane.specs.Layout.{stateOf, withCode, emptyWords};
 ghost use Rattle.lane.specs.Calls.{namedCarrier};
-ghost use Rattle.lane.specs.Call.{load-call, start-call, enter-call, leave-call, surface-call, read-call, opening-call, text-call, bare, entered, cycled, readOut, opening, listed, Gives};
+ghost use Rattle.lane.specs.Call.{load-call, start-call, enter-call, leave-call, surface-call, read-call, opening-call, text-call, handover-call, bare, entered, cycled, readOut, opening, listed, Gives};
 ghost use Rattle.lane.specs.Given.{GivesWith};
+ghost use Rattle.lane.specs.Handover.{TakesOver};
 ghost use Rattle.console.specs.Program.{stepInto, StepGives};
 ghost use Rattle.host.specs.Gaps.{gapGiven};
 ghost use Rattle.host.specs.Version.{version};
@@ -28,7 +29,7 @@ use lane::Road;
 pub extern "C" fn rondavitse_version() -> u32
     ensures { λ r. ⌜ r ≡ version ⌝ }
 {
-    7
+    8
 }
 
 #[no_mangle]
@@ -113,6 +114,22 @@ pub extern "C" fn rondavitse_lane_text(l: &Lane, out: &mut [u8]) -> Listed
     ensures { λ r. ⌜ Gives (text-call (now (out .entry))) (now (l .entry)) (listed r (now (out .exit))) (now (l .entry)) ⌝ }
 {
     lane::lane_text(l, out)
+}
+
+// The whole lane as text, for another host to take over.
+#[no_mangle]
+pub extern "C" fn rondavitse_handover(l: &Lane, out: &mut [u8]) -> Listed
+    ensures { λ r. ⌜ Gives (handover-call (now (out .entry))) (now (l .entry)) (listed r (now (out .exit))) (now (l .entry)) ⌝ }
+{
+    lane::handover(l, out)
+}
+
+// A lane from such a text, whatever was there; a refused text leaves the empty lane.
+#[no_mangle]
+pub extern "C" fn rondavitse_take_over(l: &mut Lane, text: &[u8]) -> u32
+    ensures { λ r. ⌜ TakesOver (now (text .entry)) r (now (l .exit)) ⌝ }
+{
+    lane::take_over(l, text)
 }
 
 // The wishes come as two arrays, of sorts and of values; the first `count` of each are looked at.
