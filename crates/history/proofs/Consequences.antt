@@ -38,11 +38,11 @@ use Rattle.history.proofs.Bits.{below-power}
 use Rattle.history.proofs.Books.{driven-at, driven-at-least}
 use Rattle.history.proofs.Fronts.{front-below}
 use Rattle.history.proofs.Lasting.{goes-on}
-use Rattle.history.proofs.History.{ran-gives, history}
+use Rattle.history.proofs.History.{ran-gives, chain-history, history}
 use Rattle.history.proofs.Answered.{every-list}
 use Rattle.history.proofs.Changes.{surface-changes}
 use Rattle.history.proofs.Openings.{openings}
-use Rattle.history.proofs.Handovers.{handovers}
+use Rattle.history.proofs.Handovers.{chain-handovers, handovers}
 
 -- what is claimed throughout is claimed of every call of the list, at the lane and the book that the calls before it have left
 pub at-each-call : (b : Book) (before : List Event) (e : Event) (later : List Event) → Throughout b (before ++ (e ∷ later))
@@ -258,22 +258,33 @@ started-for-good l d before e between f after r road first is-start accepted =
 -- ---- of a lane that is handed on
 
 -- once a text is taken over no call gives 21
-pub taken-for-good : (text : List ℕ) (l : Words) → TakesOver text 0 l → (es : List Event) (d : Words) → Ran l es d → NeverBroken true es
-taken-for-good text l g es d r = chain-kept-never-broken (taken-lane text 0 l g .0 refl) (ran-gives r)
+chain-taken-for-good : {l d : Words} {es : List Event} (text : List ℕ) → TakesOver text 0 l → Chain l es d → NeverBroken true es
+chain-taken-for-good {l} text g c = chain-kept-never-broken (taken-lane text 0 l g .0 refl) c
 
--- a list in which the lane is handed over, and one that another host runs on the lane that it took over from that text: there demand 3 holds with the
--- book as it stood at the handover, and no call gives 21
+pub taken-for-good : (text : List ℕ) (l : Words) → TakesOver text 0 l → (es : List Event) (d : Words) → Ran l es d → NeverBroken true es
+taken-for-good text l g es d r = chain-taken-for-good text g (ran-gives r)
+
+-- a list in which the lane is handed over, and one that another host runs on the lane that it took over from that text: it was accepted, demand 3 holds
+-- there with the book as it stood at the handover, and no call gives 21
+module _ {l d : Words} {b : Book} {es : List Event} (how : Begins l b) (c : Chain l es d) (before : List Event) (hand : Event) (later : List Event) (buffer : List ℕ)
+    (is : es ≡ before ++ (hand ∷ later)) (is-hand : hand .call ≡ handover-call buffer) (accepted : hand .answer .number ≡ 0)
+    (h : stateOf (laneAfter l before) .cycle ≤ lastCycle) where
+  pub chain-handed-on : (number : ℕ) (m : Words) → TakesOver (textHanded hand) number m → {fs : List Event} {f : Words} → Chain m fs f
+      → (number ≡ 0) × (stateOf m ≡ stateOf (laneAfter l before)) × Throughout (bookOn b before) fs × NeverBroken true fs
+  chain-handed-on number m g {fs} {f} q =
+      let text = textHanded hand in
+      let told = chain-handovers how c .1 before hand later buffer is is-hand accepted h in
+      let zero = g .number-is ∙ told .0 in (
+        zero,
+        g .state ∙ told .1,
+        subst (λ (k : Book). Throughout k fs) (told .2) (chain-history m (begunFrom text) (from-text text number m g) fs f q),
+        chain-taken-for-good text (subst (λ (n : ℕ). TakesOver text n m) zero g) q,
+      )
+
 pub handed-on : (l : Words) (b : Book) → Begins l b → (es : List Event) (d : Words) → Ran l es d
     → (before : List Event) (hand : Event) (later : List Event) (buffer : List ℕ) → es ≡ before ++ (hand ∷ later)
     → hand .call ≡ handover-call buffer → hand .answer .number ≡ 0 → stateOf (laneAfter l before) .cycle ≤ lastCycle
     → (number : ℕ) (m : Words) → TakesOver (textHanded hand) number m → (fs : List Event) (f : Words) → Ran m fs f
     → (number ≡ 0) × (stateOf m ≡ stateOf (laneAfter l before)) × Throughout (bookOn b before) fs × NeverBroken true fs
 handed-on l b how es d r before hand later buffer is is-hand accepted h number m g fs f q =
-    let text = textHanded hand in
-    let told = handovers l b how es d r .1 before hand later buffer is is-hand accepted h in
-    let zero = g .number-is ∙ told .0 in (
-      zero,
-      g .state ∙ told .1,
-      subst (λ (c : Book). Throughout c fs) (told .2) (history m (begunFrom text) (from-text text number m g) fs f q),
-      taken-for-good text m (subst (λ (n : ℕ). TakesOver text n m) zero g) fs f q,
-    )
+    chain-handed-on how (ran-gives r) before hand later buffer is is-hand accepted h number m g (ran-gives q)

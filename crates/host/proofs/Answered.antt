@@ -21,18 +21,21 @@ use Rattle.lane.specs.Layout.{Words, stateOf, emptyWords}
 use Rattle.lane.specs.Calls.{ifAccepted, readyNo}
 use Rattle.lane.specs.Call.{Call, start-call, load-call, enter-call, leave-call, surface-call, cycle-call, read-call, opening-call, text-call, handover-call, Answer, bare, entered, cycled, readOut, opening, listed, callAnswer}
 use Rattle.lane.specs.Given.{wishesNo, wishesGiven, GivesWith}
+use Rattle.lane.specs.Handover.{takeOverNo}
 use Rattle.lane.proofs.Answerable.{gives-some, returned, read-exact}
-use Rattle.history.specs.Book.{Book, begun}
+use Rattle.lane.proofs.HandoverLaws.{takes-some}
+use Rattle.history.specs.Book.{Book, begun, begunFrom}
 use Rattle.history.specs.Begins.{Begins}
 use Rattle.history.specs.History.{Event, callsIn, Throughout, SurfaceChanges, NeverBroken}
 use Rattle.history.specs.Openings.{Openings}
+use Rattle.history.specs.Handovers.{Handovers}
 use Rattle.history.proofs.Answered.{of-lane, of-both, lent, left, gives-as, reads-as, lends, lends-both, Exact, surface-puts}
 use Rattle.console.specs.declared.Stepped.{Stepped}
 use Rattle.console.specs.History.{blockRun}
 use Rattle.console.proofs.Answered.{every-step}
 use Rattle.host.specs.Gaps.{gapGiven}
 use Rattle.host.proofs.Calls.{HostCall, starts, loads, enters, leaves, surfaces, cycles, reads, finds, lists, hands, steps, eventsMade, stepAnswer, Cycles, HostDid, HostRan, nothing-yet, call, allMade, Emptied, TookOver}
-use Rattle.host.proofs.History.{host-history, host-history-from-empty, host-surface-changes, host-openings, host-calls, host-never-broken}
+use Rattle.host.proofs.History.{host-history, host-history-from-empty, host-surface-changes, host-openings, host-handovers, host-history-from-text, host-calls, host-never-broken}
 use Rattle.host.proofs.rondavitse_empty.Reads as empty-reads
 use Rattle.host.proofs.rondavitse_start.Reads as start-reads
 use Rattle.host.proofs.rondavitse_load.Reads as load-reads
@@ -175,10 +178,10 @@ every-host-list l (x ∷ xs) =
 -- for every list of exported calls, however it begins, there is a history: its calls are those that the exported ones are, what is claimed holds
 -- throughout, of changes of surface and of openings, and no call gives 21 after a start
 pub every-host-list-claimed : (l : Words) (b : Book) → Begins l b → (xs : List HostCall)
-    → (h : HostHistoryOf l xs) × (callsIn (h .events) ≡ allMade xs) × Throughout b (h .events) × SurfaceChanges l b (h .events) × Openings l b (h .events) × NeverBroken false (h .events)
+    → (h : HostHistoryOf l xs) × (callsIn (h .events) ≡ allMade xs) × Throughout b (h .events) × SurfaceChanges l b (h .events) × Openings l b (h .events) × Handovers l b (h .events) × NeverBroken false (h .events)
 every-host-list-claimed l b how xs =
     let h = every-host-list l xs in
-    (h, host-calls (h .ran), host-history l b how xs (h .events) (h .last) (h .ran), host-surface-changes l b how xs (h .events) (h .last) (h .ran), host-openings l b how xs (h .events) (h .last) (h .ran), host-never-broken (h .ran))
+    (h, host-calls (h .ran), host-history l b how xs (h .events) (h .last) (h .ran), host-surface-changes l b how xs (h .events) (h .last) (h .ran), host-openings l b how xs (h .events) (h .last) (h .ran), host-handovers l b how xs (h .events) (h .last) (h .ran), host-never-broken (h .ran))
 
 -- and from the lane that `rondavitse_empty` gives
 pub every-host-list-from-empty : (xs : List HostCall) → Emptied emptyWords × ((h : HostHistoryOf emptyWords xs) × Throughout (begun emptyWords) (h .events))
@@ -186,6 +189,15 @@ every-host-list-from-empty xs =
     let e : Emptied emptyWords = record { κs = ([], tt); lane = lent []; says = refl } in
     let h = every-host-list emptyWords xs in
     (e, (h, host-history-from-empty emptyWords e xs (h .events) (h .last) (h .ran)))
+
+-- and from a lane that `rondavitse_take_over` gives of a text, which it does of every one
+pub every-host-list-from-text : (text : List ℕ) (xs : List HostCall)
+    → (l : Words) × TookOver text (takeOverNo text) l × ((h : HostHistoryOf l xs) × Throughout (begunFrom text) (h .events))
+every-host-list-from-text text xs =
+    let some = takes-some text in
+    let t : TookOver text (takeOverNo text) (some .0) = record { κs = ([], ([], tt)); lane = lent []; read = lent text; text-is = refl; says = some .1 } in
+    let h = every-host-list (some .0) xs in
+    (some .0, t, (h, host-history-from-text text (takeOverNo text) (some .0) t xs (h .events) (h .last) (h .ran)))
 
 -- each exported call may stand in a list, with any arguments
 pub each-host-call : (l : Words) (road : Road) (first : ℕ) (table : List ℕ) (c : Carrier) (number code count head : ℕ) (newcomer : Newcomer) (sorts values buffer input : List ℕ) (at : ℕ)

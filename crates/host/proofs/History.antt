@@ -2,11 +2,12 @@
 use mathlib.Core.Path.{_≡_, refl, ap, _∙_, subst}
 use mathlib.Core.Bool.{Bool, true, false, cond}
 use mathlib.Core.List.{List, [], _∷_, _++_, map}
-use Prim.Native.Nat.{ℕ}
+use Prim.Native.Nat.{ℕ, _≤_}
 use borrow.Author.Tests.{eqb-true, eqb-false}
 use denote.Ref.{now}
 use lib.Dec.{eqb}
 use lib.ListN.{drop}
+use Rattle.lane.specs.Limits.{lastCycle}
 use Rattle.lane.specs.Layout.{Words, stateOf, emptyWords}
 use Rattle.lane.specs.Call.{Call, load-call, cycle-call, text-call, handover-call, Answer, cycled, Gives}
 use Rattle.lane.specs.Given.{wishesNo, wishesGiven, GivesWith}
@@ -14,13 +15,15 @@ use Rattle.lane.specs.Handover.{TakesOver}
 use Rattle.lane.proofs.Laws.{wishes-enough}
 use Rattle.history.specs.Book.{Book, begun, begunFrom}
 use Rattle.history.specs.Begins.{Begins, from-empty, from-text}
-use Rattle.history.specs.History.{Event, callsIn, Chain, chain-end, chain-next, Throughout, LoadedRowsServe, SurfaceChanges, NeverBroken}
+use Rattle.history.specs.History.{Event, callsIn, bookOn, laneAfter, Chain, chain-end, chain-next, Throughout, LoadedRowsServe, SurfaceChanges, NeverBroken}
 use Rattle.history.specs.Openings.{Openings}
+use Rattle.history.specs.Handovers.{textHanded, Handovers}
 use Rattle.history.proofs.History.{given-of, read-of, chain-history}
-use Rattle.history.proofs.Consequences.{chain-never-broken}
+use Rattle.history.proofs.Consequences.{chain-never-broken, chain-handed-on}
 use Rattle.history.proofs.Rows.{chain-loaded-rows-serve}
 use Rattle.history.proofs.Changes.{chain-surface-changes}
 use Rattle.history.proofs.Openings.{chain-openings}
+use Rattle.history.proofs.Handovers.{chain-handovers}
 use Rattle.console.specs.Blocks.{Parsed, parsed, malformed}
 use Rattle.console.specs.History.{blockRun, eventsOf, callsWith}
 use Rattle.console.proofs.Calls.{step-chain}
@@ -80,12 +83,12 @@ pub host-history-from-empty : (l : Words) → Emptied l → (xs : List HostCall)
 host-history-from-empty l e xs es d r = subst (λ (k : Words). Throughout (begun k) es) (e .says) (host-history l (begun l) (from-empty l (rw (e .says) refl)) xs es d r)
 
 -- and from one that `rondavitse_take_over` gives, with the book that its text holds
-pub took-over-begins : {text : List ℕ} {number : ℕ} {l : Words} → TookOver text number l → Begins l (begunFrom text)
-took-over-begins {text} {number} {l} t = from-text text number l (subst (λ (u : List ℕ). TakesOver u number l) (t .text-is) (t .says))
+took-over : {text : List ℕ} {number : ℕ} {l : Words} → TookOver text number l → TakesOver text number l
+took-over {number = number} {l} t = subst (λ (u : List ℕ). TakesOver u number l) (t .text-is) (t .says)
 
 pub host-history-from-text : (text : List ℕ) (number : ℕ) (l : Words) → TookOver text number l → (xs : List HostCall) (es : List Event) (d : Words) → HostRan l xs es d
     → Throughout (begunFrom text) es
-host-history-from-text text number l t xs es d r = host-history l (begunFrom text) (took-over-begins t) xs es d r
+host-history-from-text text number l t xs es d r = host-history l (begunFrom text) (from-text text number l (took-over t)) xs es d r
 
 -- rows that `rondavitse_load` brought are in force from the next accepted start to the one after it
 pub host-loaded-rows-serve : (l : Words) (xs : List HostCall) (es : List Event) (d : Words) → HostRan l xs es d → LoadedRowsServe es
@@ -98,6 +101,20 @@ host-surface-changes l b how xs es d r = chain-surface-changes how (is-chain r)
 -- `rondavitse_find_opening` answers exactly the positions at which by the book a newcomer fits, and `rondavitse_enter`, or a block, lets it in there
 pub host-openings : (l : Words) (b : Book) → Begins l b → (xs : List HostCall) (es : List Event) (d : Words) → HostRan l xs es d → Openings l b es
 host-openings l b how xs es d r = chain-openings how (is-chain r)
+
+-- `rondavitse_handover` writes the lane as it stands, and who takes the text over goes on with the same book
+pub host-handovers : (l : Words) (b : Book) → Begins l b → (xs : List HostCall) (es : List Event) (d : Words) → HostRan l xs es d → Handovers l b es
+host-handovers l b how xs es d r = chain-handovers how (is-chain r)
+
+-- a list in which a host hands its lane over, and one that another host runs on the lane that `rondavitse_take_over` made of that text: it was accepted,
+-- demand 3 holds with the book as it stood at the handover, and no call gives 21
+pub host-handed-on : (l : Words) (b : Book) → Begins l b → (xs : List HostCall) (es : List Event) (d : Words) → HostRan l xs es d
+    → (before : List Event) (hand : Event) (later : List Event) (buffer : List ℕ) → es ≡ before ++ (hand ∷ later)
+    → hand .call ≡ handover-call buffer → hand .answer .number ≡ 0 → stateOf (laneAfter l before) .cycle ≤ lastCycle
+    → (number : ℕ) (m : Words) → TookOver (textHanded hand) number m → (ys : List HostCall) (fs : List Event) (f : Words) → HostRan m ys fs f
+    → (number ≡ 0) × (stateOf m ≡ stateOf (laneAfter l before)) × Throughout (bookOn b before) fs × NeverBroken true fs
+host-handed-on l b how xs es d r before hand later buffer is is-hand accepted h number m t ys fs f q =
+    chain-handed-on how (is-chain r) before hand later buffer is is-hand accepted h number m (took-over t) (is-chain q)
 
 -- the calls of the lane are those that the exported calls are, refused or not
 pub host-calls : {l d : Words} {xs : List HostCall} {es : List Event} → HostRan l xs es d → callsIn es ≡ allMade xs
