@@ -27,8 +27,8 @@ abbrev numbersOf : Row → List ℕ
 numbersOf r = r .guaranteed ∷ r .hardest ∷ r .most ∷ []
 
 -- each of which a line holds
-abbrev pub Fits : Row → Type 0
-Fits r = (r .guaranteed ≤ numberMost) × (r .hardest ≤ numberMost) × (r .most ≤ numberMost)
+abbrev pub RowFits : Row → Type 0
+RowFits r = (r .guaranteed ≤ numberMost) × (r .hardest ≤ numberMost) × (r .most ≤ numberMost)
 
 groups-of : (rs : List Row) → tableText rs ≡ groupsText rowKeys (map numbersOf rs)
 unfolding rowText tableText
@@ -39,12 +39,12 @@ rows-of : (rs : List Row) → map surfaceIn (map numbersOf rs) ≡ rs
 rows-of [] = refl
 rows-of (r ∷ rs) = ap (λ (l : List Row). r ∷ l) (rows-of rs)
 
-rows-held : (rs : List Row) → ((i : ℕ) → i < length rs → Fits (rowOf rs i)) → AllHeld rowKeys (map numbersOf rs)
+rows-held : (rs : List Row) → ((i : ℕ) → i < length rs → RowFits (rowOf rs i)) → AllHeld rowKeys (map numbersOf rs)
 unfolding rowOf
 rows-held [] h = tt
 rows-held (r ∷ rs) h = let f = h 0 (omega arith) in ((f .0, (f .1, (f .2, tt))), rows-held rs (λ i p. h (suc i) (omega arith)))
 
-row-of : (g : List ℕ) → Held rowKeys g → (numbersOf (surfaceIn g) ≡ g) × Fits (surfaceIn g)
+row-of : (g : List ℕ) → Held rowKeys g → (numbersOf (surfaceIn g) ≡ g) × RowFits (surfaceIn g)
 row-of [] h = absurd h
 row-of (b ∷ []) h = absurd (h .1)
 row-of (b ∷ B ∷ []) h = absurd (h .1 .1)
@@ -52,7 +52,7 @@ row-of (b ∷ B ∷ A ∷ []) h = (refl, (h .0, h .1 .0, h .1 .1 .0))
 row-of (b ∷ B ∷ A ∷ n ∷ ns) h = absurd (h .1 .1 .1)
 
 groups-held : (gs : List (List ℕ)) → AllHeld rowKeys gs
-    → (map numbersOf (map surfaceIn gs) ≡ gs) × ((i : ℕ) → i < length gs → Fits (rowOf (map surfaceIn gs) i))
+    → (map numbersOf (map surfaceIn gs) ≡ gs) × ((i : ℕ) → i < length gs → RowFits (rowOf (map surfaceIn gs) i))
 unfolding rowOf
 groups-held [] h = (refl, λ i p. absurd (omega arith))
 groups-held (g ∷ gs) h =
@@ -60,14 +60,14 @@ groups-held (g ∷ gs) h =
     let others = groups-held gs (h .1) in
     (cc (first .0, others .0), by-place (first .1) (others .1))
   where
-    by-place : Fits (surfaceIn g) → ((i : ℕ) → i < length gs → Fits (rowOf (map surfaceIn gs) i))
-        → (i : ℕ) → i < suc (length gs) → Fits (rowOf (map surfaceIn (g ∷ gs)) i)
+    by-place : RowFits (surfaceIn g) → ((i : ℕ) → i < length gs → RowFits (rowOf (map surfaceIn gs) i))
+        → (i : ℕ) → i < suc (length gs) → RowFits (rowOf (map surfaceIn (g ∷ gs)) i)
     by-place f k zero p = f
     by-place f k (suc i) p = k i (omega arith)
 
 -- ---- eight rows in a text
 
-pub rows-again : (rs : List Row) (rest : List ℕ) → length rs ≡ 8 → ((i : ℕ) → i < 8 → Fits (rowOf rs i)) → rowsIn (tableText rs ++ rest) ≡ got rs rest
+pub rows-again : (rs : List Row) (rest : List ℕ) → length rs ≡ 8 → ((i : ℕ) → i < 8 → RowFits (rowOf rs i)) → rowsIn (tableText rs ++ rest) ≡ got rs rest
 unfolding rowsIn
 rows-again rs rest eight h =
     let n : length (map numbersOf rs) ≡ 8 = length-map rs numbersOf ∙ eight in
@@ -75,12 +75,12 @@ rows-again rs rest eight h =
     rw (groups-of rs, rw n at again, rows-of rs) refl
 
 pub rows-taken : (t : List ℕ) (rs : List Row) (rest : List ℕ) → rowsIn t ≡ got rs rest
-    → (t ≡ tableText rs ++ rest) × (length rs ≡ 8) × ((i : ℕ) → i < 8 → Fits (rowOf rs i))
+    → (t ≡ tableText rs ++ rest) × (length rs ≡ 8) × ((i : ℕ) → i < 8 → RowFits (rowOf rs i))
 unfolding rowsIn
 rows-taken t rs rest e = by-groups (groupsIn rowKeys 8 t) refl e
   where
     by-groups : (x : Got (List (List ℕ))) → groupsIn rowKeys 8 t ≡ x → andThen x (λ gs u. got (map surfaceIn gs) u) ≡ got rs rest
-        → (t ≡ tableText rs ++ rest) × (length rs ≡ 8) × ((i : ℕ) → i < 8 → Fits (rowOf rs i))
+        → (t ≡ tableText rs ++ rest) × (length rs ≡ 8) × ((i : ℕ) → i < 8 → RowFits (rowOf rs i))
     by-groups (got gs u) q e =
         let g = got-injective e in
         let k = groups-taken rowKeys 8 t gs u q in

@@ -27,16 +27,19 @@ load-refusal-requires c κs = search needs
 
 -- the number found is that of the text
 module _ (k : tie.After-load-refusal) where
+  abbrev looked : tie.After-unsound
+  looked = k .before .before
+
   abbrev seen : tie.After-read
-  seen = k .before .before .before .before .before
+  seen = looked .before .before .before
 
   abbrev s : tie.Start
   s = seen .before .before .before
 
-  bad : badTable (tableIn (s .args .text .now)) ≡ not (seen .read .result .ok) || ltb (seen .read .result .next) (length (s .args .text .now)) || k .before .before .unsound .result
+  bad : badTable (tableIn (s .args .text .now)) ≡ not (seen .read .result .ok) || ltb (seen .read .result .next) (length (s .args .text .now)) || looked .unsound .result
   bad =
       bad-told (s .args .text .now) (seen .read .result .ok) (seen .read .last .1 .1 .0) (seen .read .result .next) (seen .read .ensures .0)
-      ∙ ap (λ (b : Bool). not (seen .read .result .ok) || ltb (seen .read .result .next) (length (s .args .text .now)) || b) (sym (k .before .before .unsound .ensures))
+      ∙ ap (λ (b : Bool). not (seen .read .result .ok) || ltb (seen .read .result .next) (length (s .args .text .now)) || b) (sym (looked .unsound .ensures))
 
   number : k .load-refusal .result ≡ loadNo (stateOf (s .args .l .now)) (s .args .text .now)
   number = k .load-refusal .ensures (s .args .text .now) bad
