@@ -19,6 +19,7 @@ use Rattle.history.specs.Book.{Book}
 use Rattle.history.specs.Begins.{Begins}
 use Rattle.history.specs.History.{Event, laneAfter, Ran, Chain}
 use Rattle.history.specs.Handovers.{textHanded, HandoversTaken, Handovers}
+use Rattle.history.proofs.Agreement.{counted}
 use Rattle.history.proofs.CycleRuns.{bookOf}
 use Rattle.history.proofs.History.{ran-gives}
 use Rattle.history.proofs.Events.{agree-at, answer-at, number-at}
@@ -83,14 +84,16 @@ module _ {l d : Words} {es : List Event} (c : Chain l es d) (before : List Event
         ap (λ (a : Answer). take (a .long) (a .bytes)) (answer-at c before hand later is (handover-call buffer) is-hand)
         ∙ text-handed at-hand buffer number-zero
 
-    read-back-there : at-hand .cycle ≤ lastCycle → (takeOverNo (textHanded hand) ≡ 0) × (takenOver (textHanded hand) ≡ at-hand)
-    read-back-there h = rw handed-is (read-back (laneAfter l before) (accepted-unbroken at-hand buffer number-zero) h)
+    read-back-there : at-hand .count ≡ length (at-hand .carriers) → at-hand .cycle ≤ lastCycle
+        → (takeOverNo (textHanded hand) ≡ 0) × (takenOver (textHanded hand) ≡ at-hand)
+    read-back-there counted h = rw handed-is (read-back (laneAfter l before) (accepted-unbroken at-hand buffer number-zero) counted h)
 
 module _ {l d : Words} {b : Book} {es : List Event} (how : Begins l b) (c : Chain l es d) where
   chain-taken : HandoversTaken l b es
   chain-taken before hand later buffer is is-hand accepted h =
-      let back = read-back-there c before hand later is buffer is-hand accepted h in
-      (back .0, back .1, ap bookOf (back .1) ∙ agree-at c before hand later is how .same)
+      let agree = agree-at c before hand later is how in
+      let back = read-back-there c before hand later is buffer is-hand accepted (counted (agree .good)) h in
+      (back .0, back .1, ap bookOf (back .1) ∙ agree .same)
 
   pub chain-handovers : Handovers l b es
   chain-handovers = (λ before hand later buffer is is-hand. answered c before hand later is buffer is-hand, chain-taken)
