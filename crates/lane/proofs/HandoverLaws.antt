@@ -1,34 +1,40 @@
--- The handover: one lane has one text, which is read back as the lane, and the reader takes no other text; which number a reading answers is in
--- `HandoverNumbers`.
+-- The handover: one lane has one text, which is read back as the lane, and the reader takes no other text; how it is written, and how long it is.
 use mathlib.Core.Path.{_≡_, refl, sym, ap, ap₂, subst, _∙_}
-use mathlib.Core.Bool.{Bool, true, false}
+use mathlib.Core.Bool.{Bool, true, false, cond}
 use mathlib.Core.List.{List, [], _∷_, _++_, append-assoc, append-nil}
-use Prim.Native.Nat.{ℕ, _+_, _≤_, _<_}
+use mathlib.Core.Logic.{_⊎_, inl, inr}
+use Prim.Native.Nat.{ℕ, _≤_, _<_}
 use native.Mathlib.Omega.{arith}
 use borrow.Author.Tests.{eqb-true, eqb-false}
-use lib.Dec.{eqb}
-use lib.ListN.{length, getD}
-use Rattle.text.specs.Groups.{groupText, Got, got, missing, andThen, whole, groupIn}
+use lib.Dec.{eqb, ltb}
+use lib.ListN.{length, getD, drop, length-append}
+use Rattle.text.specs.Ascii.{ascii}
+use Rattle.text.specs.Numbers.{decimal}
+use Rattle.text.specs.Lines.{line}
+use Rattle.text.specs.Groups.{groupText, Got, got, missing, groupIn}
+use Rattle.text.proofs.Laws.{decimal-at-most, length-line}
 use Rattle.text.proofs.GroupLaws.{Held, group-again, got-injective, got≢missing, group-taken, whole-taken}
 use Rattle.lane.specs.declared.Carrier.{Carrier}
 use Rattle.lane.specs.declared.Road.{Road}
 use Rattle.lane.specs.declared.Row.{Row}
-use Rattle.lane.specs.Limits.{lastCycle}
-use Rattle.lane.specs.Surface.{rowOf, unsound}
+use Rattle.lane.specs.Limits.{lastCycle, longestHandover}
+use Rattle.lane.specs.Surface.{rowOf}
 use Rattle.lane.specs.State.{State}
 use Rattle.lane.specs.Layout.{Words, stateOf, emptyWords}
 use Rattle.lane.specs.Rules.{broken, laneNo}
-use Rattle.lane.specs.Table.{tableText, rowsIn}
+use Rattle.lane.specs.Table.{rowText, tableText, rowsIn}
 use Rattle.lane.specs.Calls.{none}
 use Rattle.lane.specs.Listing.{laneText, laneTextIn}
-use Rattle.lane.specs.Handover.{roadKeys, roadNumbers, roadText, handoverText, handed, handoverIn, takeOverNo, takenOver, TakesOver}
-use Rattle.lane.specs.Call.{Kept}
+use Rattle.lane.specs.Handover.{roadKeys, roadNumbers, roadText, handoverText, handed, handoverIn, takeOverNo, takenOver, TakesOver, handoverNo, handoverBytes}
+use Rattle.lane.specs.Call.{handover-call, bare, told, callNo, callAnswer, Kept}
 use Rattle.lane.proofs.checks.Surfaces.{SoundRow, sound-at}
 use Rattle.lane.proofs.checks.Records.{wordsFor, words-for, table-eight}
 use Rattle.lane.proofs.checks.Soundness.{SoundRoad, Fit, sound, fit-at, lane-no-zero}
-use Rattle.lane.proofs.checks.TableTexts.{Fits, rows-again, rows-taken}
+use Rattle.lane.proofs.checks.TableTexts.{Fits, rows-again, rows-taken, table-length}
+use Rattle.lane.proofs.calls.Answers.{refused-answers, accepted-answers}
+use Rattle.lane.proofs.calls.Texts.{text-most}
 use Rattle.lane.proofs.calls.Read.{FitsLines, lane-again, then-taken, lane-taken}
-use Rattle.lane.proofs.calls.Handing.{reads-none, reads-one, one-taken, none-taken, taken, refused}
+use Rattle.lane.proofs.calls.Handing.{reads-none, reads-one, one-taken, handover-length, refused}
 
 -- ---- one text of one lane
 
@@ -197,3 +203,75 @@ takes-some text = by-test (eqb (takeOverNo text) 0) refl
           },
         )
     by-test false e = (emptyWords, refused text (takeOverNo text) emptyWords refl (eqb-false (takeOverNo text) 0 e) refl)
+
+-- ---- which of these a text has
+
+-- for every text: that of one lane, whose number is answered; or of none, and 36
+pub one-or-none : (text : List ℕ)
+    → ((s : State) × InForm s × (text ≡ handoverText s) × (takeOverNo text ≡ laneNo s))
+    ⊎ (((s : State) → InForm s → ¬ (text ≡ handoverText s)) × (takeOverNo text ≡ 36))
+one-or-none text =
+    by-reading text (λ e. inr (λ s f same. got≢missing (sym (form-read s f) ∙ ap handoverIn (sym same) ∙ e), reads-none text e)) λ s f same no lane.
+    inl (s, f, same, no)
+
+pub one-lane : (s t : State) → InForm s → InForm t → handoverText s ≡ handoverText t → s ≡ t
+one-lane s t f g same = got-injective (sym (form-read s f) ∙ ap handoverIn same ∙ form-read t g) .0
+
+pub one-text : (text other : List ℕ) → takeOverNo text ≡ 0 → takeOverNo other ≡ 0 → takenOver text ≡ takenOver other → text ≡ other
+one-text text other y z same = sym (written-again text y .0) ∙ ap handoverText same ∙ written-again other z .0
+
+-- ---- as it is written
+
+-- "the eight rows in force and those for the next start, each as table text, then `surface`, `end`, `limit`, `cycle`, then the lane text."
+pub handover-lines : (s : State) → handoverText s
+    ≡ tableText (s .tables .inForce)
+    ++ (tableText (s .tables .next)
+    ++ (line (ascii "surface=") (decimal (s .road .surface))
+    ++ (line (ascii "end=") (decimal (s .road .end))
+    ++ (line (ascii "limit=") (decimal (s .road .limit)) ++ (line (ascii "cycle=") (decimal (s .cycle)) ++ laneText s)))))
+unfolding handoverText
+handover-lines s = rw (append-assoc, append-assoc, append-assoc, append-assoc) refl
+
+-- "given as text of 24 lines `b=`, `B=`, `A=` row by row": those of a row
+pub row-lines : (r : Row) → rowText r
+    ≡ line (ascii "b=") (decimal (r .guaranteed)) ++ (line (ascii "B=") (decimal (r .hardest)) ++ line (ascii "A=") (decimal (r .most)))
+unfolding rowText
+row-lines r = rw append-nil refl
+
+-- no text of a lane that breaks no rule is longer than the longest
+pub handover-most : (l : Words) → broken (stateOf l) ≡ false → stateOf l .cycle ≤ lastCycle → length (handoverText (stateOf l)) ≤ longestHandover
+handover-most l b cycle =
+    let s = stateOf l in
+    let h = sound s b in
+    omega (
+      arith,
+      handover-length s,
+      table-length (s .tables .inForce) (table-eight 1 l) (h .in-force),
+      table-length (s .tables .next) (table-eight 9 l) (h .next),
+      road-length s (h .road) cycle,
+      text-most l b,
+    )
+  where
+    -- lines of 10, 15, 11 and 27 bytes
+    road-length : (s : State) → SoundRoad (s .road) → s .cycle ≤ lastCycle → length (roadText s) ≤ 63
+    road-length s r cycle =
+        let surface = decimal-at-most 1 (s .road .surface) (omega arith) (omega (arith, r .surface)) in
+        let end = decimal-at-most 10 (s .road .end) (omega arith) (omega (arith, r .end-most)) in
+        let limit = decimal-at-most 4 (s .road .limit) (omega arith) (omega (arith, r .limit-most)) in
+        let many = decimal-at-most 20 (s .cycle) (omega arith) (omega arith) in
+        simp (length-append, length-line) (omega arith)
+
+-- "Checks and buffer of writing are those of the lane text": "21, 9"
+module _ (s : State) (buffer : List ℕ) where
+  pub handover-in-order : callNo (handover-call buffer) s ≡ cond (broken s) 21 (cond (ltb (length buffer) (length (handoverText s))) 9 0)
+  unfolding handoverNo
+  handover-in-order = refl
+
+  -- "bytes of the buffer after the text don't change."
+  pub handover-answers : callNo (handover-call buffer) s ≡ 0
+      → callAnswer (handover-call buffer) s ≡ told 0 (length (handoverText s)) (handoverText s ++ drop (length (handoverText s)) buffer)
+  unfolding handoverBytes
+  handover-answers e = accepted-answers (handover-call buffer) s e
+
+  pub handover-refused : ¬ (callNo (handover-call buffer) s ≡ 0) → callAnswer (handover-call buffer) s ≡ bare (callNo (handover-call buffer) s) buffer
+  handover-refused h = refused-answers (handover-call buffer) s h
