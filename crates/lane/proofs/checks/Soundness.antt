@@ -187,14 +187,16 @@ module _ {r : Row} (road : Road) where
   fit-of l count i d h p k =
       fit road (getD l i d) (none-of (unlawful road) l count i d (h .lawful) p k) (none-of (pastEnd road) l count i d (h .before-end) p k)
 
--- and of those from a place on, whether they are safe or not
-pub fit-from : (road : Road) (l : List Carrier) (count i : ℕ) (d : Carrier) → misfit road (slice i count l) ≡ false → i < count → count ≤ length l → Fit road (getD l i d)
-fit-from road l count i d e p k =
+-- whether they are safe or not
+pub fit-in : (road : Road) (cs : List Carrier) (i : ℕ) (d : Carrier) → misfit road cs ≡ false → i < length cs → Fit road (getD cs i d)
+fit-in road cs i d e p =
     let alone : Carrier → Bool = λ c. unlawful road c || pastEnd road c in
-    let cs = getD l i d ∷ slice (i + 1) count l in
-    let fitting : misfit road cs ≡ false = rw (slice-next d l i count p k) at e in
-    let t = neither (unlawful road (getD l i d)) (pastEnd road (getD l i d)) (none-at alone cs 0 d (neither (anyOf alone cs) (repeats cs) fitting .0) (omega arith)) in
-    fit road (getD l i d) (t .0) (t .1)
+    let t = neither (unlawful road (getD cs i d)) (pastEnd road (getD cs i d)) (none-at alone cs i d (neither (anyOf alone cs) (repeats cs) e .0) p) in
+    fit road (getD cs i d) (t .0) (t .1)
+
+-- and of those from a place on
+pub fit-from : (road : Road) (l : List Carrier) (count i : ℕ) (d : Carrier) → misfit road (slice i count l) ≡ false → i < count → count ≤ length l → Fit road (getD l i d)
+fit-from road l count i d e p k = fit-in road (getD l i d ∷ slice (i + 1) count l) 0 d (rw (slice-next d l i count p k) at e) (omega arith)
 
 -- ---- a state
 pub record Sound (s : State) : Type 0 where
@@ -209,23 +211,30 @@ pub record Sound (s : State) : Type 0 where
 pub row-sound : {s : State} → Sound s → SoundRow (rowIn (s .tables) (s .road))
 row-sound {s} h = sound-at (s .tables .inForce) (s .road .surface) (h .road .surface) (h .in-force)
 
-pub sound : (s : State) → broken s ≡ false → Sound s
-unfolding broken
-sound s e =
+-- what is known beside the carriers
+pub founded : (s : State) → unfounded s ≡ false
+    → (s .started ≡ true) × SoundRoad (s .road) × (unsound (s .tables .inForce) ≡ false) × (unsound (s .tables .next) ≡ false) × (s .count ≤ 64)
+founded s e =
     let never = not (s .started) in
     let off = not (eqb (roadNo (s .road)) 0) in
-    let many = ltb 64 (s .count) in
-    let t = neither (never || off || unsound (s .tables .inForce) || unsound (s .tables .next) || many) (faulty (rowIn (s .tables) (s .road)) (s .road) (s .carriers)) e in
-    let u = neither (never || off || unsound (s .tables .inForce) || unsound (s .tables .next)) many (t .0) in
+    let u = neither (never || off || unsound (s .tables .inForce) || unsound (s .tables .next)) (ltb 64 (s .count)) e in
     let v = neither (never || off || unsound (s .tables .inForce)) (unsound (s .tables .next)) (u .0) in
     let w = neither (never || off) (unsound (s .tables .inForce)) (v .0) in
     let x = neither never off (w .0) in
+    let road = sound-road (s .road) (eqb-true (roadNo (s .road)) 0 (not-false _ (x .1))) in
+    (not-false (s .started) (x .0), road, w .1, v .1, ltb-false 64 (s .count) (u .1))
+
+pub sound : (s : State) → broken s ≡ false → Sound s
+unfolding broken
+sound s e =
+    let t = neither (unfounded s) (faulty (rowIn (s .tables) (s .road)) (s .road) (s .carriers)) e in
+    let f = founded s (t .0) in
     record {
-      started = not-false (s .started) (x .0);
-      road = sound-road (s .road) (eqb-true (roadNo (s .road)) 0 (not-false _ (x .1)));
-      in-force = w .1;
-      next = v .1;
-      count = ltb-false 64 (s .count) (u .1);
+      started = f .0;
+      road = f .1;
+      in-force = f .2;
+      next = f .3;
+      count = f .4;
       carriers = faultless (rowIn (s .tables) (s .road)) (s .road) (s .carriers) (t .1);
     }
 
