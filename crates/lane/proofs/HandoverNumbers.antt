@@ -53,10 +53,20 @@ unsafe-pair r (c ∷ cs) e = behind c cs e
         by-test true q more = let m = more (rw q at e) in (suc (m .0), omega (arith, m .1), m .2)
         by-test false q more = (0, omega arith, q)
 
--- ---- the two numbers
+-- ---- two tests, each of which gives 36
 
-abbrev numberOf : (unfounded unfit safe : Bool) → ℕ
-numberOf u m t = cond u 36 (cond m 36 (cond t 0 37))
+first-36 : (u : Bool) (later : ℕ) → ¬ (u ≡ false) → cond u 36 later ≡ 36
+first-36 true later h = refl
+first-36 false later h = absurd (h refl)
+
+either-36 : (u m : Bool) (later : ℕ) → ¬ (m ≡ false) → cond u 36 (cond m 36 later) ≡ 36
+either-36 true m later h = refl
+either-36 false m later h = first-36 m later h
+
+neither-36 : (u m : Bool) (later : ℕ) → ¬ (cond u 36 (cond m 36 later) ≡ 36) → cond u 36 (cond m 36 later) ≡ later
+neither-36 true m later h = absurd (h refl)
+neither-36 false true later h = absurd (h refl)
+neither-36 false false later h = refl
 
 module _ (s : State) where
   abbrev unfit : Bool
@@ -65,39 +75,37 @@ module _ (s : State) where
   abbrev safe : Bool
   safe = laneSafe (rowIn (s .tables) (s .road)) (s .carriers)
 
-  number-is : laneNo s ≡ numberOf (unfounded s) unfit safe
-  unfolding laneNo carriersNo
-  number-is = refl
-
-  -- 36, unless every rule other than safety is kept
-  unless-36 : (unfounded s ≡ false → unfit ≡ false → ⊥) → laneNo s ≡ 36
-  unless-36 h = number-is ∙ by-tests (unfounded s) unfit refl refl
-    where
-      by-tests : (u m : Bool) → unfounded s ≡ u → unfit ≡ m → numberOf u m safe ≡ 36
-      by-tests true m e f = refl
-      by-tests false true e f = refl
-      by-tests false false e f = absurd (h e f)
-
-  -- and where they are
-  not-36 : ¬ (laneNo s ≡ 36) → laneNo s ≡ cond safe 0 37
-  not-36 h = number-is ∙ by-tests (unfounded s) unfit (λ e. h (number-is ∙ e))
-    where
-      by-tests : (u m : Bool) → (numberOf u m safe ≡ 36 → ⊥) → numberOf u m safe ≡ cond safe 0 37
-      by-tests true m k = absurd (k refl)
-      by-tests false true k = absurd (k refl)
-      by-tests false false k = refl
-
-  -- a lane is accepted where 21 passes it, and turned away by 36 or 37 where it doesn't
-  pub lane-numbers : ((laneNo s ≡ 0) ⊎ (laneNo s ≡ 36) ⊎ (laneNo s ≡ 37)) × (laneNo s ≡ 0 → broken s ≡ false) × (broken s ≡ false → laneNo s ≡ 0)
-  lane-numbers = (by-tests (unfounded s) unfit safe number-is, lane-no-zero s .0, lane-no-zero s .1)
-    where
-      by-tests : (u m t : Bool) → laneNo s ≡ numberOf u m t → (laneNo s ≡ 0) ⊎ (laneNo s ≡ 36) ⊎ (laneNo s ≡ 37)
-      by-tests true m t e = inr (inl e)
-      by-tests false true t e = inr (inl e)
-      by-tests false false true e = inl e
-      by-tests false false false e = inr (inr e)
-
   -- ---- 36
+
+  -- "a number 0 .., a speed above the limit, a position at or past the end"; T-03: by the tail, "and at a length out of range"; T-06: "21 covers a rate
+  -- out of range too."
+  pub carrier-36 : (i : ℕ) → i < length (s .carriers) →
+      let c = getD (s .carriers) i none in
+      (c .number ≡ 0 → laneNo s ≡ 36)
+      × (65535 < c .number → laneNo s ≡ 36)
+      × (s .road .limit < c .speed → laneNo s ≡ 36)
+      × (65535 < c .length → laneNo s ≡ 36)
+      × (c .rate ≡ 0 → laneNo s ≡ 36)
+      × (255 < c .rate → laneNo s ≡ 36)
+      × (s .road .end + c .length ≤ c .position → laneNo s ≡ 36)
+  unfolding laneNo carriersNo
+  carrier-36 i p =
+      let known : unfit ≡ false → Fit (s .road) (getD (s .carriers) i none) = λ f. fit-in (s .road) (s .carriers) i none f p in (
+        λ h. either-36 (unfounded s) unfit _ λ f. omega (arith, known f .number-least),
+        λ h. either-36 (unfounded s) unfit _ λ f. omega (arith, known f .number-most),
+        λ h. either-36 (unfounded s) unfit _ λ f. omega (arith, known f .slow),
+        λ h. either-36 (unfounded s) unfit _ λ f. omega (arith, known f .short),
+        λ h. either-36 (unfounded s) unfit _ λ f. omega (arith, known f .rate-least),
+        λ h. either-36 (unfounded s) unfit _ λ f. omega (arith, known f .rate-most),
+        λ h. either-36 (unfounded s) unfit _ λ f. omega (arith, known f .before-end),
+      )
+
+  -- "a number .. twice"
+  pub twice-36 : (i j : ℕ) → i < j → j < length (s .carriers) → getD (s .carriers) i none .number ≡ getD (s .carriers) j none .number → laneNo s ≡ 36
+  unfolding laneNo carriersNo
+  twice-36 i j p q same =
+      let alone : Carrier → Bool = λ c. unlawful (s .road) c || pastEnd (s .road) c in
+      either-36 (unfounded s) unfit _ λ f. apart (s .carriers) (neither (anyOf alone (s .carriers)) (repeats (s .carriers)) f .1) i j p q same
 
   -- "never started, .. a surface or bound outside its range, more than 64 carriers"; T-01: "A lane handed in with an unsound row gets 21", of those in
   -- force or of those for the next start
@@ -112,48 +120,21 @@ module _ (s : State) where
       × ((code : ℕ) → code < 8 → ¬ (Sound (rowOf (s .tables .inForce) code)) → laneNo s ≡ 36)
       × ((code : ℕ) → code < 8 → ¬ (Sound (rowOf (s .tables .next) code)) → laneNo s ≡ 36)
       × (64 < s .count → laneNo s ≡ 36)
+  unfolding laneNo
   road-36 = (
-    λ h. unless-36 λ e f. true≢false (sym (founded s e .0) ∙ h),
-    λ h. unless-36 λ e f. omega (arith, founded s e .1 .surface),
-    λ h. unless-36 λ e f. omega (arith, founded s e .1 .end-least),
-    λ h. unless-36 λ e f. omega (arith, founded s e .1 .end-most),
-    λ h. unless-36 λ e f. omega (arith, founded s e .1 .limit-least),
-    λ h. unless-36 λ e f. omega (arith, founded s e .1 .limit-most),
-    λ code p h. unless-36 λ e f. h (in-numbers (sound-at (s .tables .inForce) code (omega arith) (founded s e .2))),
-    λ code p h. unless-36 λ e f. h (in-numbers (sound-at (s .tables .next) code (omega arith) (founded s e .3))),
-    λ h. unless-36 λ e f. omega (arith, founded s e .4),
+    λ h. first-36 (unfounded s) _ λ e. true≢false (sym (founded s e .0) ∙ h),
+    λ h. first-36 (unfounded s) _ λ e. omega (arith, founded s e .1 .surface),
+    λ h. first-36 (unfounded s) _ λ e. omega (arith, founded s e .1 .end-least),
+    λ h. first-36 (unfounded s) _ λ e. omega (arith, founded s e .1 .end-most),
+    λ h. first-36 (unfounded s) _ λ e. omega (arith, founded s e .1 .limit-least),
+    λ h. first-36 (unfounded s) _ λ e. omega (arith, founded s e .1 .limit-most),
+    λ code p h. first-36 (unfounded s) _ λ e. h (in-numbers (sound-at (s .tables .inForce) code (omega arith) (founded s e .2))),
+    λ code p h. first-36 (unfounded s) _ λ e. h (in-numbers (sound-at (s .tables .next) code (omega arith) (founded s e .3))),
+    λ h. first-36 (unfounded s) _ λ e. omega (arith, founded s e .4),
   )
     where
       in-numbers : {r : Row} → SoundRow r → (1 ≤ r .guaranteed) × (r .guaranteed ≤ r .hardest) × (r .hardest ≤ 255) × (1 ≤ r .most) × (r .most ≤ 255)
       in-numbers h = (h .brakes, h .brakes-harder, h .hardest-most, h .gains, h .gains-most)
-
-  -- "a number 0 .., a speed above the limit, a position at or past the end"; T-03: by the tail, "and at a length out of range"; T-06: "21 covers a rate
-  -- out of range too."
-  pub carrier-36 : (i : ℕ) → i < length (s .carriers) →
-      let c = getD (s .carriers) i none in
-      (c .number ≡ 0 → laneNo s ≡ 36)
-      × (65535 < c .number → laneNo s ≡ 36)
-      × (s .road .limit < c .speed → laneNo s ≡ 36)
-      × (65535 < c .length → laneNo s ≡ 36)
-      × (c .rate ≡ 0 → laneNo s ≡ 36)
-      × (255 < c .rate → laneNo s ≡ 36)
-      × (s .road .end + c .length ≤ c .position → laneNo s ≡ 36)
-  carrier-36 i p =
-      let known : unfit ≡ false → Fit (s .road) (getD (s .carriers) i none) = λ f. fit-in (s .road) (s .carriers) i none f p in (
-        λ h. unless-36 λ e f. omega (arith, known f .number-least),
-        λ h. unless-36 λ e f. omega (arith, known f .number-most),
-        λ h. unless-36 λ e f. omega (arith, known f .slow),
-        λ h. unless-36 λ e f. omega (arith, known f .short),
-        λ h. unless-36 λ e f. omega (arith, known f .rate-least),
-        λ h. unless-36 λ e f. omega (arith, known f .rate-most),
-        λ h. unless-36 λ e f. omega (arith, known f .before-end),
-      )
-
-  -- "a number .. twice"
-  pub twice-36 : (i j : ℕ) → i < j → j < length (s .carriers) → getD (s .carriers) i none .number ≡ getD (s .carriers) j none .number → laneNo s ≡ 36
-  twice-36 i j p q same =
-      let alone : Carrier → Bool = λ c. unlawful (s .road) c || pastEnd (s .road) c in
-      unless-36 λ e f. apart (s .carriers) (neither (anyOf alone (s .carriers)) (repeats (s .carriers)) f .1) i j p q same
 
   -- ---- 37
 
@@ -168,10 +149,11 @@ module _ (s : State) where
       in
       (¬ (laneNo s ≡ 36) → (i : ℕ) → suc i < length (s .carriers) → ¬ (Safe i) → laneNo s ≡ 37)
       × (laneNo s ≡ 37 → (i : ℕ) × (suc i < length (s .carriers)) × ¬ (Safe i))
+  unfolding laneNo carriersNo
   unsafe-37 = (
-    λ h i p u. not-36 h ∙ by-safety (λ q. u (safe-numbers r _ _ (safe-behind-leader r (s .carriers) q i p))) safe refl,
+    λ h i p u. neither-36 (unfounded s) unfit _ h ∙ by-safety (λ q. u (safe-numbers r _ _ (safe-behind-leader r (s .carriers) q i p))) safe refl,
     λ e.
-        let u = unsafe-pair r (s .carriers) (by-number (unfounded s) unfit safe (sym number-is ∙ e)) in
+        let u = unsafe-pair r (s .carriers) (by-number (unfounded s) unfit safe e) in
         (u .0, u .1, λ h. true≢false (sym (numbers-safe r _ _ h) ∙ u .2)),
   )
     where
@@ -182,8 +164,19 @@ module _ (s : State) where
       by-safety h true q = absurd (h q)
       by-safety h false q = refl
 
-      by-number : (u m t : Bool) → numberOf u m t ≡ 37 → t ≡ false
+      by-number : (u m t : Bool) → _≡_ {A = ℕ} (cond u 36 (cond m 36 (cond t 0 37))) 37 → t ≡ false
       by-number true m t e = absurd (omega arith)
       by-number false true t e = absurd (omega arith)
       by-number false false true e = absurd (omega arith)
       by-number false false false e = refl
+
+  -- ---- a lane is accepted where 21 passes it, and turned away by 36 or 37 where it doesn't
+  pub lane-numbers : ((laneNo s ≡ 0) ⊎ (laneNo s ≡ 36) ⊎ (laneNo s ≡ 37)) × (laneNo s ≡ 0 → broken s ≡ false) × (broken s ≡ false → laneNo s ≡ 0)
+  unfolding laneNo carriersNo
+  lane-numbers = (by-tests (unfounded s) unfit safe refl, lane-no-zero s .0, lane-no-zero s .1)
+    where
+      by-tests : (u m t : Bool) → laneNo s ≡ cond u 36 (cond m 36 (cond t 0 37)) → (laneNo s ≡ 0) ⊎ (laneNo s ≡ 36) ⊎ (laneNo s ≡ 37)
+      by-tests true m t e = inr (inl e)
+      by-tests false true t e = inr (inl e)
+      by-tests false false true e = inl e
+      by-tests false false false e = inr (inr e)
