@@ -30,7 +30,7 @@ use Rattle.lane.specs.Call.{handover-call, bare, told, callNo, callAnswe
 use Rattle.lane.proofs.checks.Surfaces.{SoundRow, sound-at}
 use Rattle.lane.proofs.checks.Records.{wordsFor, words-for, table-eight}
 use Rattle.lane.proofs.checks.Soundness.{SoundRoad, Fit, sound, fit-at, lane-no-zero}
-use Rattle.lane.proofs.checks.TableTexts.{Fits, rows-again, rows-taken, table-length}
+use Rattle.lane.proofs.checks.TableTexts.{RowFits, rows-again, rows-taken, table-length}
 use Rattle.lane.proofs.calls.Answers.{refused-answers, accepted-answers}
 use Rattle.lane.proofs.calls.Texts.{text-most}
 use Rattle.lane.proofs.calls.Read.{FitsLines, lane-again, then-taken, lane-taken}
@@ -44,9 +44,9 @@ pub record InForm (s : State) : Type 0 where
   pub counted : s .count ≡ length (s .carriers)
   pub few : length (s .carriers) ≤ 64
   pub in-force : length (s .tables .inForce) ≡ 8
-  pub in-force-fits : (i : ℕ) → i < 8 → Fits (rowOf (s .tables .inForce) i)
+  pub in-force-fits : (i : ℕ) → i < 8 → RowFits (rowOf (s .tables .inForce) i)
   pub next : length (s .tables .next) ≡ 8
-  pub next-fits : (i : ℕ) → i < 8 → Fits (rowOf (s .tables .next) i)
+  pub next-fits : (i : ℕ) → i < 8 → RowFits (rowOf (s .tables .next) i)
   pub surface : s .road .surface ≤ 4294967295
   pub end : s .road .end ≤ 4294967295
   pub limit : s .road .limit ≤ 4294967295
@@ -137,7 +137,7 @@ unbroken-form s b counted inForce next cycle =
       carriers = λ i p. carrier-fits (s .road) (h .road) (fit-at (s .road) (s .carriers) i none (h .carriers) p);
     }
   where
-    row-fits : {r : Row} → SoundRow r → Fits r
+    row-fits : {r : Row} → SoundRow r → RowFits r
     row-fits h = (omega (arith, h .brakes-harder, h .hardest-most), omega (arith, h .hardest-most), omega (arith, h .gains-most))
 
     carrier-fits : {c : Carrier} (road : Road) → SoundRoad road → Fit road c → FitsLines c
