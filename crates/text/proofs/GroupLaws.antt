@@ -6,7 +6,7 @@ use mathlib.Core.List.{List, [], _∷_, _++_, append-assoc, append-nil}
 use Prim.Native.Nat.{ℕ, zero, suc, _+_, _-_, _≤_, _<_}
 use native.Mathlib.Omega.{arith}
 use lib.Dec.{leb, eqb}
-use lib.ListN.{length, drop, length-drop, length-append}
+use lib.ListN.{length, getD, drop, length-drop, length-append}
 use lib.Seq.{drop-drop, drop-append-seam}
 use borrow.Author.Tests.{le-leb, lt-leb, leb-true, eqb-false, not-true}
 use Rattle.text.specs.Numbers.{decimal}
@@ -19,6 +19,10 @@ use Rattle.text.specs.declared.numbers.Number.the-variants.{Is, Malforme
 use Rattle.text.proofs.Laws.{decimal-at-most, length-line, place-fits, Put, put-both}
 use Rattle.text.proofs.Reading.{both}
 use Rattle.text.proofs.ReadLaws.{number-is, number-value, no-number, no-bytes, no-newline, decimal-no-newline, length-of-line, field-read, field-put, field-whole}
+
+-- the key of a group's line, from 0 on
+abbrev pub keyAt : List Key → ℕ → Key
+keyAt ks i = getD ks i (record { name = []; most = 0 })
 
 -- ---- keys and numbers that can be written
 

@@ -183,3 +183,29 @@ put-both at first second buffer {place} {end} {middle} {out} room p q =
       cc (written-then at first second buffer (omega arith)),
       q .1 ∙ place-fits place second middle (omega arith) ∙ omega arith ∙ sym (place-fits at (first ++ second) buffer room),
     )
+
+-- a text put piece by piece: `left` is still to be put, and there is room
+pub record Putting (all : List ℕ) (from : ℕ) (out₀ out : List ℕ) (at : ℕ) (left : List ℕ) : Type 0 where
+  pub same : length out ≡ length out₀
+  pub ends : at + length left ≡ from + length all
+  pub room : at + length left ≤ length out
+  pub rest : written at left out ≡ written from all out₀
+
+pub putting-start : (all : List ℕ) (from : ℕ) (out : List ℕ) → from + length all ≤ length out → Putting all from out out from all
+putting-start all from out room = record { same = refl; ends = refl; room = room; rest = refl }
+
+module _ {all : List ℕ} {from at : ℕ} {out₀ out left : List ℕ} (p : Putting all from out₀ out at left) where
+  pub putting-next : {next : ℕ} {out₁ : List ℕ} (piece rest : List ℕ) → left ≡ piece ++ rest → out₁ ≡ written at piece out → next ≡ at + length piece
+      → Putting all from out₀ out₁ next rest
+  putting-next piece rest e f g =
+      let long = ap length e ∙ length-append piece rest in
+      let same = ap length f ∙ length-written at piece out in
+      record {
+        same = same ∙ p .same;
+        ends = omega (arith, p .ends);
+        room = omega (arith, p .room);
+        rest = cc (written-then at piece rest out (omega (arith, p .room)), e, p .rest);
+      }
+
+  pub putting-end : left ≡ [] → (out ≡ written from all out₀) × (at ≡ from + length all)
+  putting-end e = (cc (written-nothing at out, e, p .rest), omega (arith, ap length e, p .ends))

@@ -1,16 +1,16 @@
 -- A handover text as functions read and put it, part after part, and what decides a reading.
 use mathlib.Core.Path.{_≡_, refl, sym, ap, _∙_}
 use mathlib.Core.Bool.{Bool, true, false, _&&_, cond}
-use mathlib.Core.List.{List, [], _∷_, _++_}
-use Prim.Native.Nat.{ℕ, _+_, _≤_, _<_}
+use mathlib.Core.List.{List, [], _∷_, _++_, append-nil}
+use Prim.Native.Nat.{ℕ, _+_, _≤_}
 use native.Mathlib.Omega.{arith}
 use borrow.Author.Tests.{eq-eqb, ne-eqb}
-use lib.Dec.{leb, eqb}
+use lib.Dec.{leb}
 use lib.ListN.{length, take, drop, length-append}
 use lib.Seq.{length-take-le}
-use Rattle.text.specs.Groups.{Got, got, missing, andThen, groupIn}
+use Rattle.text.specs.Groups.{got, missing, groupIn}
 use Rattle.text.specs.Lines.{written}
-use Rattle.text.proofs.Laws.{length-written, written-then}
+use Rattle.text.proofs.Laws.{putting-start, putting-next, putting-end}
 use Rattle.text.proofs.GroupLaws.{whole-told}
 use Rattle.lane.specs.declared.Carrier.{Carrier}
 use Rattle.lane.specs.declared.Road.{Road}
@@ -83,11 +83,6 @@ handover-length s =
     let lane = laneText s in
     omega (arith, length-append (tableText (s .tables .inForce)) (next ++ (road ++ lane)), length-append next (road ++ lane), length-append road lane)
 
--- bytes put after others, each told by its place
-then-put : (at : ℕ) (first second buffer : List ℕ) {place : ℕ} {middle out : List ℕ} → at + length first + length second ≤ length buffer
-    → middle ≡ written at first buffer → place ≡ at + length first → out ≡ written place second middle → out ≡ written at (first ++ second) buffer
-then-put at first second buffer room e f g = g ∙ rw (e, f) (written-then at first second buffer room)
-
 -- one after the other they are the text
 pub parts-put : (s : State) (buffer : List ℕ) {p q r end : ℕ} {out₁ out₂ out₃ out : List ℕ} → length (handoverText s) ≤ length buffer
     → (out₁ ≡ written 0 (tableText (s .tables .inForce)) buffer) × (p ≡ 0 + length (tableText (s .tables .inForce)))
@@ -96,19 +91,13 @@ pub parts-put : (s : State) (buffer : List ℕ) {p q r end : ℕ} {out₁ out₂
     → (out ≡ written r (laneText s) out₃) × (end ≡ r + length (laneText s))
     → (out ≡ written 0 (handoverText s) buffer) × (end ≡ length (handoverText s))
 unfolding handoverText
-parts-put s buffer {p} {q} {r} {end} {out₁} {out₂} room w x y z =
-    let all = handover-length s in
-    let rows = tableText (s .tables .inForce) in
-    let next = tableText (s .tables .next) in
-    let road = roadText s in
+parts-put s buffer room w x y z =
     let lane = laneText s in
-    let long₁ : length out₁ ≡ length buffer = ap length (w .0) ∙ length-written 0 rows buffer in
-    let long₂ : length out₂ ≡ length buffer = ap length (x .0) ∙ length-written p next out₁ ∙ long₁ in
-    let two = then-put q road lane out₂ (omega (arith, w .1, x .1)) (y .0) (y .1) (z .0) in
-    let three = then-put p next (road ++ lane) out₁ (omega (arith, w .1, length-append road lane)) (x .0) (x .1) two in (
-      then-put 0 rows (next ++ (road ++ lane)) buffer (omega (arith, length-append next (road ++ lane), length-append road lane)) (w .0) (w .1) three,
-      omega (arith, w .1, x .1, y .1, z .1),
-    )
+    let rows = putting-next (putting-start (handoverText s) 0 buffer (omega arith)) (tableText (s .tables .inForce)) _ refl (w .0) (w .1) in
+    let next = putting-next rows (tableText (s .tables .next)) _ refl (x .0) (x .1) in
+    let road = putting-next next (roadText s) lane refl (y .0) (y .1) in
+    let end = putting-end (putting-next road lane [] (sym (append-nil lane)) (z .0) (z .1)) refl in
+    (end .0, omega (arith, end .1))
 
 -- ---- what decides a reading
 

@@ -8,26 +8,20 @@ use lib.ListN.{length, getD, take, length-append}
 use lib.Seq.{slice}
 use Rattle.text.specs.Numbers.{decimal}
 use Rattle.text.specs.Lines.{line, written}
-use Rattle.text.specs.Groups.{Key}
-use Rattle.text.proofs.Laws.{decimal-at-most, length-line, length-written, place-fits, written-nothing, written-then, Put}
+use Rattle.text.proofs.Laws.{decimal-at-most, length-line, length-written, place-fits, written-then, Put, Putting, putting-start, putting-end}
 use Rattle.lane.specs.declared.Carrier.{Carrier}
 use Rattle.lane.specs.declared.Road.{Road}
 use Rattle.lane.specs.declared.layout.Figures.{Figures}
 use Rattle.lane.specs.Limits.{longestText}
-use Rattle.lane.specs.State.{State}
 use Rattle.lane.specs.Surface.{Tables}
 use Rattle.lane.specs.Layout.{Words, stateWith, stateOf}
 use Rattle.lane.specs.Rules.{broken}
 use Rattle.lane.specs.Calls.{none}
-use Rattle.lane.specs.Listing.{carrierKeys, carsKey, carrierText, carriersText, laneText}
+use Rattle.lane.specs.Listing.{carsKey, carrierText, carriersText, laneText}
 use Rattle.lane.proofs.lists.Lists.{slice-next, slice-past}
 use Rattle.lane.proofs.checks.Soundness.{SoundRoad, sound}
 use Rattle.lane.proofs.Unbroken.{carriers-lawful}
 use Rattle.lane.proofs.calls.Answers.{counted-most}
-
--- the key of a carrier's line, from 0 on
-abbrev pub lineKey : ℕ → Key
-lineKey i = getD carrierKeys i carsKey
 
 -- ---- lengths
 
@@ -71,7 +65,7 @@ text-most l b =
 
 -- ---- the carriers that a loop has still to see
 
-carriers-next : (d : Carrier) (l : List Carrier) (i count : ℕ) → i < count → count ≤ length l
+pub carriers-next : (d : Carrier) (l : List Carrier) (i count : ℕ) → i < count → count ≤ length l
     → carriersText (slice i count l) ≡ carrierText (getD l i d) ++ carriersText (slice (i + 1) count l)
 unfolding carriersText
 carriers-next d l i count h k = rw (slice-next d l i count h k) refl
@@ -86,14 +80,7 @@ length-next d l i count h k = ap length (carriers-next d l i count h k) ∙ simp
 
 -- ---- writes
 
--- what a loop over the carriers has written: those from i on are still to be put, and there is room
-pub record Writing (carriers : List Carrier) (count at₀ : ℕ) (out₀ out : List ℕ) (at i : ℕ) : Type 0 where
-  pub same : length out ≡ length out₀
-  pub ends : at + length (carriersText (slice i count carriers)) ≡ at₀ + length (carriersText (take count carriers))
-  pub room : at + length (carriersText (slice i count carriers)) ≤ length out
-  pub rest : written at (carriersText (slice i count carriers)) out ≡ written at₀ (carriersText (take count carriers)) out₀
-
--- the first line is put, at a place of the buffer
+-- the first line is put, at a place of the buffer, and the carriers are still to be put
 module _ (f : Figures) (tables : Tables) (records : List Carrier) (buffer : List ℕ) (from : ℕ) {at₀ : ℕ} {out₀ : List ℕ}
     (room : from + length (laneText (stateWith f tables records)) ≤ length buffer)
     (p : Put from (line (carsKey .name) (decimal (f .count))) buffer out₀ at₀) where
@@ -110,33 +97,14 @@ module _ (f : Figures) (tables : Tables) (records : List Carrier) (buffer : List
   first-place : at₀ ≡ from + length header
   first-place = p .1 ∙ place-fits from header buffer (omega (arith, first-room))
 
-  pub writing-start : Writing records (f .count) at₀ out₀ out₀ at₀ 0
+  pub writing-start : Putting carriers at₀ out₀ out₀ at₀ carriers
   writing-start =
       let same : length out₀ ≡ length buffer = ap length (p .0) ∙ length-written from header buffer in
-      record { same = refl; ends = refl; room = omega (arith, first-room, first-place); rest = refl }
+      putting-start carriers at₀ out₀ (omega (arith, first-room, first-place))
 
-  pub writing-end : {out : List ℕ} {at i : ℕ} → Writing records (f .count) at₀ out₀ out at i → f .count ≤ i
+  pub writing-end : {out : List ℕ} {at i : ℕ} → Putting carriers at₀ out₀ out at (carriersText (slice i (f .count) records)) → f .count ≤ i
       → (out ≡ written from (laneText (stateWith f tables records)) buffer) × (at ≡ from + length (laneText (stateWith f tables records)))
   unfolding laneText
-  writing-end {out} {at} {i} w h =
-      let past = carriers-past records i (f .count) h in (
-        cc (written-nothing at out, past, w .rest, first-place, written-then from header carriers buffer first-room),
-        rw length-append (omega (arith, ap length past, w .ends, first-place)),
-      )
-
--- and then each carrier's lines
-pub writing-next : (d : Carrier) {carriers : List Carrier} {count at₀ at at₁ i : ℕ} {out₀ out out₁ : List ℕ}
-    → Writing carriers count at₀ out₀ out at i → i < count → count ≤ length carriers
-    → out₁ ≡ written at (carrierText (getD carriers i d)) out → at₁ ≡ at + length (carrierText (getD carriers i d))
-    → Writing carriers count at₀ out₀ out₁ at₁ (i + 1)
-writing-next d {carriers} {count} {at₀} {at} {at₁} {i} {out₀} {out} {out₁} w h k e f =
-    let bytes = carrierText (getD carriers i d) in
-    let left = carriersText (slice (i + 1) count carriers) in
-    let same : length out₁ ≡ length out = ap length e ∙ length-written at bytes out in
-    let long = length-next d carriers i count h k in
-    record {
-      same = same ∙ w .same;
-      ends = omega (arith, w .ends);
-      room = omega (arith, w .room);
-      rest = cc (written-then at bytes left out (omega (arith, w .room)), carriers-next d carriers i count h k, w .rest);
-    }
+  writing-end {i = i} w h =
+      let end = putting-end w (carriers-past records i (f .count) h) in
+      (cc (end .0, p .0, first-place, written-then from header carriers buffer first-room), rw length-append (omega (arith, end .1, first-place)))

@@ -1,7 +1,7 @@
 -- Table text as groups of numbers: read again as it was written, taken for nothing else, as functions tell of it; and as a loop over its rows makes it.
 use mathlib.Core.Path.{_≡_, refl, sym, ap, _∙_}
 use mathlib.Core.Bool.{Bool, true, false, not, _&&_, _||_, cond, true≢false}
-use mathlib.Core.List.{List, [], _∷_, _++_, map, append-nil, append-assoc}
+use mathlib.Core.List.{List, [], _∷_, _++_, map}
 use Prim.Native.Nat.{ℕ, zero, suc, _+_, _*_, _≤_, _<_}
 use native.Mathlib.Numerals.{add-one}
 use native.Mathlib.Omega.{arith}
@@ -9,11 +9,9 @@ use borrow.Author.Tests.{leb-true, leb-false, lt-ltb, le-ltb}
 use lib.Dec.{leb, ltb}
 use lib.ListN.{length, drop, length-map, length-append, drop-of-length-le}
 use lib.Seq.{drop-cons}
-use Rattle.text.specs.Ascii.{ascii}
 use Rattle.text.specs.Numbers.{decimal}
-use Rattle.text.specs.Lines.{line, written}
 use Rattle.text.specs.Groups.{groupsText, Got, got, missing, andThen, whole, groupsIn}
-use Rattle.text.proofs.Laws.{decimal-at-most, length-line, length-written, place-fits, written-nothing, written-then, Put, put-both}
+use Rattle.text.proofs.Laws.{decimal-at-most, length-line}
 use Rattle.text.proofs.GroupLaws.{Held, AllHeld, groups-again, groups-taken, got-injective, got≢missing, whole-told, whole-taken}
 use Rattle.lane.specs.declared.Row.{Row}
 use Rattle.lane.specs.Surface.{row, rowOf, unsound}
@@ -160,11 +158,11 @@ table-length rs eight e = omega (arith, rows-length rs (λ i p. sound-at rs i (o
 -- ---- the rows that a loop has still to see
 
 module _ (rs : List Row) (code : ℕ) where
-  text-next : code < length rs → tableText (drop code rs) ≡ rowText (rowOf rs code) ++ tableText (drop (code + 1) rs)
+  pub text-next : code < length rs → tableText (drop code rs) ≡ rowText (rowOf rs code) ++ tableText (drop (code + 1) rs)
   unfolding rowOf tableText
   text-next h = rw (drop-cons rs code (row 0 0 0) h, add-one code) refl
 
-  text-past : length rs ≤ code → tableText (drop code rs) ≡ []
+  pub text-past : length rs ≤ code → tableText (drop code rs) ≡ []
   unfolding tableText
   text-past h = rw (drop-of-length-le rs h) refl
 
@@ -173,49 +171,3 @@ module _ (rs : List Row) (code : ℕ) where
 
   pub length-past : length rs ≤ code → length (tableText (drop code rs)) ≡ 0
   length-past h = ap length (text-past h)
-
--- ---- writes
-
-pub put-row : (at : ℕ) (r : Row) (buffer : List ℕ) {p q end : ℕ} {out₁ out₂ out : List ℕ} → at + length (rowText r) ≤ length buffer
-    → Put at (line (ascii "b=") (decimal (r .guaranteed))) buffer out₁ p
-    → Put p (line (ascii "B=") (decimal (r .hardest))) out₁ out₂ q
-    → Put q (line (ascii "A=") (decimal (r .most))) out₂ out end
-    → (out ≡ written at (rowText r) buffer) × (end ≡ at + length (rowText r))
-unfolding rowText
-put-row at r buffer room x y z =
-    let b = line (ascii "b=") (decimal (r .guaranteed)) in
-    let B = line (ascii "B=") (decimal (r .hardest)) in
-    let A = line (ascii "A=") (decimal (r .most)) in
-    let same : b ++ B ++ A ≡ rowText r = rw (append-nil, append-assoc) refl in
-    let whole : at + length (b ++ B ++ A) ≤ length buffer = rw same room in
-    let two = put-both at b B buffer (omega (arith, length-append (b ++ B) A)) x y in
-    let all = put-both at (b ++ B) A buffer whole two z in
-    (rw same at (all .0), rw same at (all .1 ∙ place-fits at (b ++ B ++ A) buffer whole))
-
--- what a loop over the rows has written: those from a code on are still to be put, and there is room
-pub record Writing (rs : List Row) (at₀ : ℕ) (out₀ out : List ℕ) (at code : ℕ) : Type 0 where
-  pub same : length out ≡ length out₀
-  pub ends : at + length (tableText (drop code rs)) ≡ at₀ + length (tableText rs)
-  pub room : at + length (tableText (drop code rs)) ≤ length out
-  pub rest : written at (tableText (drop code rs)) out ≡ written at₀ (tableText rs) out₀
-
-pub writing-start : (rs : List Row) (at : ℕ) (out : List ℕ) → at + length (tableText rs) ≤ length out → Writing rs at out out at 0
-writing-start rs at out room = record { same = refl; ends = refl; room = room; rest = refl }
-
-module _ {rs : List Row} {at₀ at code : ℕ} {out₀ out : List ℕ} (w : Writing rs at₀ out₀ out at code) where
-  pub writing-next : {at₁ : ℕ} {out₁ : List ℕ} → code < length rs → out₁ ≡ written at (rowText (rowOf rs code)) out
-      → at₁ ≡ at + length (rowText (rowOf rs code)) → Writing rs at₀ out₀ out₁ at₁ (code + 1)
-  writing-next h e f =
-      let bytes = rowText (rowOf rs code) in
-      let left = tableText (drop (code + 1) rs) in
-      let same = ap length e ∙ length-written at bytes out in
-      let long = length-next rs code h in
-      record {
-        same = same ∙ w .same;
-        ends = omega (arith, w .ends);
-        room = omega (arith, w .room);
-        rest = cc (written-then at bytes left out (omega (arith, w .room)), text-next rs code h, w .rest);
-      }
-
-  pub writing-end : length rs ≤ code → (out ≡ written at₀ (tableText rs) out₀) × (at ≡ at₀ + length (tableText rs))
-  writing-end h = (cc (written-nothing at out, text-past rs code h, w .rest), omega (arith, length-past rs code h, w .ends))

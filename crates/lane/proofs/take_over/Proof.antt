@@ -1,13 +1,12 @@
 -- A text that holds no lane is refused by 36, and any other by the number of its lane.
 use borrow.Author.Needs.{needs}
-use mathlib.Core.Path.{_≡_, refl, sym, ap, _∙_, subst}
-use mathlib.Core.Bool.{true, false, cond}
+use mathlib.Core.Path.{_≡_, refl, sym, _∙_, subst}
+use mathlib.Core.Bool.{true, false}
 use mathlib.Core.List.{List, []}
 use mathlib.Core.Logic.{⊎-elim}
 use Prim.Native.Nat.{ℕ}
 use native.Mathlib.Omega.{arith}
-use Rattle.text.specs.Groups.{Got, got, missing}
-use Rattle.lane.specs.State.{State}
+use Rattle.text.specs.Groups.{got, missing}
 use Rattle.lane.specs.Layout.{stateOf}
 use Rattle.lane.specs.Handover.{handoverIn, takeOverNo, TakesOver}
 use Rattle.lane.proofs.calls.Handing.{reads-none, reads-one, taken, refused}

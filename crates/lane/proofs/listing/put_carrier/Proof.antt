@@ -1,8 +1,7 @@
 -- `lane::listing::put_carrier` meets its contract: the five lines, put one after the other, are the carrier's text.
 use borrow.Author.Needs.{needs}
-use Rattle.text.proofs.GroupLaws.{put-first, put-next, group-put}
-use Rattle.lane.specs.Listing.{carrierText}
-use Rattle.lane.proofs.calls.Texts.{lineKey}
+use Rattle.text.proofs.GroupLaws.{keyAt, put-first, put-next, group-put}
+use Rattle.lane.specs.Listing.{carrierKeys, carrierText}
 use Rattle.lane.proofs.listing.put_carrier.Statement.{statement}
 use Rattle.lane.proofs.listing.put_carrier.Tie as tie
 
@@ -49,11 +48,11 @@ returns c =
     let number = position .before .before .before .before .before in
     let start = number .before .before .before .before in
     let x = start .args .c in
-    let first = put-first (lineKey 0) (x .number) (start .args .at) (start .args .out .now) _ _ (number .put-decimal-line .ensures) in
-    let second = put-next first (lineKey 1) (x .position) _ _ (position .put-decimal-line2 .ensures) in
-    let third = put-next second (lineKey 2) (x .speed) _ _ (speed .put-decimal-line3 .ensures) in
-    let fourth = put-next third (lineKey 3) (x .length) _ _ (long .put-decimal-line4 .ensures) in
-    group-put (put-next fourth (lineKey 4) (x .rate) _ _ (rate .put-decimal-line5 .ensures)) (start .pre)
+    let first = put-first (keyAt carrierKeys 0) (x .number) (start .args .at) (start .args .out .now) _ _ (number .put-decimal-line .ensures) in
+    let second = put-next first (keyAt carrierKeys 1) (x .position) _ _ (position .put-decimal-line2 .ensures) in
+    let third = put-next second (keyAt carrierKeys 2) (x .speed) _ _ (speed .put-decimal-line3 .ensures) in
+    let fourth = put-next third (keyAt carrierKeys 3) (x .length) _ _ (long .put-decimal-line4 .ensures) in
+    group-put (put-next fourth (keyAt carrierKeys 4) (x .rate) _ _ (rate .put-decimal-line5 .ensures)) (start .pre)
 
 pub put-carrier-spec : {M : Type 1} → statement M
 put-carrier-spec =

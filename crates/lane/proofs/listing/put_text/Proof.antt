@@ -4,20 +4,22 @@ use mathlib.Core.Path.{_≡_, ap, _∙_}
 use mathlib.Core.List.{List}
 use Prim.Native.Nat.{_+_, _-_, _≤_}
 use native.Mathlib.Omega.{arith}
-use lib.ListN.{length}
+use lib.ListN.{length, take}
+use lib.Seq.{slice}
+use Rattle.text.proofs.Laws.{Putting, putting-next}
 use Rattle.lane.specs.declared.Carrier.{Carrier}
 use Rattle.lane.specs.declared.layout.Figures.{Figures}
 use Rattle.lane.specs.Surface.{Tables}
 use Rattle.lane.specs.Layout.{tablesIn, recordsIn, stateWith, stateOf}
 use Rattle.lane.specs.Calls.{none}
-use Rattle.lane.specs.Listing.{laneText}
-use Rattle.lane.proofs.calls.Texts.{Writing, length-next, writing-start, writing-next, writing-end}
+use Rattle.lane.specs.Listing.{carriersText, laneText}
+use Rattle.lane.proofs.calls.Texts.{carriers-next, length-next, writing-start, writing-end}
 use Rattle.lane.proofs.listing.put_text.Statement.{statement}
 use Rattle.lane.proofs.listing.put_text.Tie as tie
 
 abbrev Inv-loop : tie.InvT-loop
 Inv-loop l out₀ at f place₀ i₀ out place i =
-    (length (recordsIn l) ≡ 64) × ((f .count ≤ 64) × ((i ≤ f .count) × Writing (recordsIn l) (f .count) place₀ out₀ out place i))
+    (length (recordsIn l) ≡ 64) × ((f .count ≤ 64) × ((i ≤ f .count) × Putting (carriersText (take (f .count) (recordsIn l))) place₀ out₀ out place (carriersText (slice i (f .count) (recordsIn l)))))
 
 abbrev μ-loop : tie.MeasureT-loop
 μ-loop l out₀ at f place₀ i₀ out place i = f .count - i
@@ -82,13 +84,15 @@ loop-again c =
     let put = c .before .before in
     let at = put .before .before .before .before .before in
     let inv = at .loop .inv in
-    let here = put .before .carrier-at .ensures in (
+    let here = put .before .carrier-at .ensures in
+    let first = at .before .before .before in
+    let next = carriers-next none (records first) (at .loop .i) (f first .count) (omega arith) (omega arith) in (
       inv .0,
       (
         inv .1 .0,
         (
           omega arith,
-          writing-next none (inv .1 .1 .1) (omega arith) (omega arith) (rw here at (put .put-carrier .ensures .0)) (rw here at (put .put-carrier .ensures .1)),
+          putting-next (inv .1 .1 .1) _ _ next (rw here at (put .put-carrier .ensures .0)) (rw here at (put .put-carrier .ensures .1)),
         ),
       ),
     )

@@ -1,7 +1,7 @@
 -- `lane::listing::read_carrier` meets its contract: each line is read where the one before ends.
 use borrow.Author.Needs.{needs}
-use Rattle.text.proofs.GroupLaws.{group-first, group-next, group-read}
-use Rattle.lane.proofs.calls.Texts.{lineKey}
+use Rattle.text.proofs.GroupLaws.{keyAt, group-first, group-next, group-read}
+use Rattle.lane.specs.Listing.{carrierKeys}
 use Rattle.lane.proofs.listing.read_carrier.Statement.{statement}
 use Rattle.lane.proofs.listing.read_carrier.Tie as tie
 
@@ -43,11 +43,11 @@ returns c =
     let position = speed .before .before in
     let number = position .before .before in
     let a = number .before .before .before .args in
-    let first = group-first (lineKey 0) (a .text .now) (a .at) (number .read-field .result) (number .read-field .ensures) in
-    let second = group-next first (lineKey 1) (position .read-field2 .result) (position .read-field2 .ensures) in
-    let third = group-next second (lineKey 2) (speed .read-field3 .result) (speed .read-field3 .ensures) in
-    let fourth = group-next third (lineKey 3) (long .read-field4 .result) (long .read-field4 .ensures) in
-    group-read (group-next fourth (lineKey 4) (rate .read-field5 .result) (rate .read-field5 .ensures))
+    let first = group-first (keyAt carrierKeys 0) (a .text .now) (a .at) (number .read-field .result) (number .read-field .ensures) in
+    let second = group-next first (keyAt carrierKeys 1) (position .read-field2 .result) (position .read-field2 .ensures) in
+    let third = group-next second (keyAt carrierKeys 2) (speed .read-field3 .result) (speed .read-field3 .ensures) in
+    let fourth = group-next third (keyAt carrierKeys 3) (long .read-field4 .result) (long .read-field4 .ensures) in
+    group-read (group-next fourth (keyAt carrierKeys 4) (rate .read-field5 .result) (rate .read-field5 .ensures))
 
 pub read-carrier-spec : {M : Type 1} → statement M
 read-carrier-spec =

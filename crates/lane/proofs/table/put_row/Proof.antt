@@ -1,7 +1,8 @@
 -- The three lines, put one after the other, are the row's text.
 use borrow.Author.Needs.{needs}
+use Rattle.text.proofs.GroupLaws.{keyAt, put-first, put-next, group-put}
 use Rattle.lane.specs.Layout.{surfaceIn}
-use Rattle.lane.proofs.checks.TableTexts.{put-row}
+use Rattle.lane.specs.Table.{rowKeys, rowText}
 use Rattle.lane.proofs.table.put_row.Statement.{statement}
 use Rattle.lane.proofs.table.put_row.Tie as tie
 
@@ -36,12 +37,16 @@ same-length : tie.Need-same-length
 same-length c = search needs
 
 returns : tie.Need-returns
+unfolding rowText
 returns c =
     let most = c .before .before in
     let hardest = most .before .before .before .before .before in
     let guaranteed = hardest .before .before .before .before .before in
     let start = guaranteed .before .before .before .before in
-    put-row (start .args .at) (surfaceIn (start .args .t3)) (start .args .out .now) (start .pre) (guaranteed .put-decimal-line .ensures) (hardest .put-decimal-line2 .ensures) (most .put-decimal-line3 .ensures)
+    let row = surfaceIn (start .args .t3) in
+    let first = put-first (keyAt rowKeys 0) (row .guaranteed) (start .args .at) (start .args .out .now) _ _ (guaranteed .put-decimal-line .ensures) in
+    let second = put-next first (keyAt rowKeys 1) (row .hardest) _ _ (hardest .put-decimal-line2 .ensures) in
+    group-put (put-next second (keyAt rowKeys 2) (row .most) _ _ (most .put-decimal-line3 .ensures)) (start .pre)
 
 pub put-row-spec : {M : Type 1} → statement M
 put-row-spec =

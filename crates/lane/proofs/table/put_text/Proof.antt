@@ -2,20 +2,23 @@
 use borrow.Author.Needs.{needs}
 use Prim.Native.Nat.{_-_, _≤_}
 use native.Mathlib.Omega.{arith}
+use lib.ListN.{drop}
+use Rattle.text.proofs.Laws.{Putting, putting-start, putting-next, putting-end}
 use Rattle.lane.specs.Layout.{tableFrom}
+use Rattle.lane.specs.Table.{tableText}
 use Rattle.lane.proofs.checks.Records.{table-eight}
-use Rattle.lane.proofs.checks.TableTexts.{Writing, length-next, writing-start, writing-next, writing-end}
+use Rattle.lane.proofs.checks.TableTexts.{text-next, text-past, length-next}
 use Rattle.lane.proofs.table.put_text.Statement.{statement}
 use Rattle.lane.proofs.table.put_text.Tie as tie
 
 abbrev Inv-loop : tie.InvT-loop
-Inv-loop l table out₀ at₀ place₀ code₀ out place code = (code ≤ 8) × Writing (tableFrom table l) at₀ out₀ out place code
+Inv-loop l table out₀ at₀ place₀ code₀ out place code = (code ≤ 8) × Putting (tableText (tableFrom table l)) at₀ out₀ out place (tableText (drop code (tableFrom table l)))
 
 abbrev μ-loop : tie.MeasureT-loop
 μ-loop l table out₀ at₀ place₀ code₀ out place code = 8 - code
 
 loop-holds : tie.Need-loop-holds Inv-loop μ-loop
-loop-holds c = (omega arith, writing-start _ _ _ (c .before .pre .1))
+loop-holds c = (omega arith, putting-start _ _ _ (c .before .pre .1))
 
 surface-at-requires : tie.Need-surface-at-requires Inv-loop μ-loop
 surface-at-requires c κs = search needs
@@ -39,7 +42,8 @@ loop-again c =
     let at = put .before .before .before .before in
     let a = at .before .before .args in
     let here = put .before .surface-at .ensures in
-    (omega arith, writing-next (at .loop .inv .1) (omega (arith, table-eight (a .table) (a .l .now))) (rw here at (put .put-row .ensures .0)) (rw here at (put .put-row .ensures .1)))
+    let next = text-next (tableFrom (a .table) (a .l .now)) (at .loop .code) (omega (arith, table-eight (a .table) (a .l .now))) in
+    (omega arith, putting-next (at .loop .inv .1) _ _ next (rw here at (put .put-row .ensures .0)) (rw here at (put .put-row .ensures .1)))
 
 same-length : tie.Need-same-length Inv-loop μ-loop
 same-length c = c .before .loop .inv .1 .same
@@ -48,7 +52,7 @@ returns : tie.Need-returns Inv-loop μ-loop
 returns c =
     let at = c .before in
     let a = at .before .before .args in
-    writing-end (at .loop .inv .1) (omega (arith, table-eight (a .table) (a .l .now)))
+    putting-end (at .loop .inv .1) (text-past (tableFrom (a .table) (a .l .now)) (at .loop .code) (omega (arith, table-eight (a .table) (a .l .now))))
 
 pub put-text-spec : {M : Type 1} → statement M
 put-text-spec =

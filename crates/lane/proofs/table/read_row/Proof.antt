@@ -1,8 +1,7 @@
 -- Each field is read where the one before ends.
 use borrow.Author.Needs.{needs}
-use Rattle.text.specs.Ascii.{ascii}
-use Rattle.text.proofs.GroupLaws.{group-first, group-next, group-read}
-use Rattle.lane.specs.Table.{numberMost}
+use Rattle.text.proofs.GroupLaws.{keyAt, group-first, group-next, group-read}
+use Rattle.lane.specs.Table.{rowKeys}
 use Rattle.lane.proofs.table.read_row.Statement.{statement}
 use Rattle.lane.proofs.table.read_row.Tie as tie
 
@@ -30,9 +29,9 @@ returns c =
     let second = third .before .before in
     let first = second .before .before in
     let a = first .before .before .before .args in
-    let guaranteed = group-first (record { name = ascii "b="; most = numberMost }) (a .text .now) (a .at) (first .read-field .result) (first .read-field .ensures) in
-    let hardest = group-next guaranteed (record { name = ascii "B="; most = numberMost }) (second .read-field2 .result) (second .read-field2 .ensures) in
-    group-read (group-next hardest (record { name = ascii "A="; most = numberMost }) (third .read-field3 .result) (third .read-field3 .ensures))
+    let guaranteed = group-first (keyAt rowKeys 0) (a .text .now) (a .at) (first .read-field .result) (first .read-field .ensures) in
+    let hardest = group-next guaranteed (keyAt rowKeys 1) (second .read-field2 .result) (second .read-field2 .ensures) in
+    group-read (group-next hardest (keyAt rowKeys 2) (third .read-field3 .result) (third .read-field3 .ensures))
 
 pub read-row-spec : {M : Type 1} → statement M
 read-row-spec =

@@ -1,7 +1,7 @@
 -- The four lines, put one after the other.
 use borrow.Author.Needs.{needs}
-use Rattle.text.proofs.GroupLaws.{put-first, put-next, group-put}
-use Rattle.lane.specs.Handover.{surfaceKey, endKey, limitKey, cycleKey}
+use Rattle.text.proofs.GroupLaws.{keyAt, put-first, put-next, group-put}
+use Rattle.lane.specs.Handover.{roadKeys}
 use Rattle.lane.proofs.transfer.put_road.Statement.{statement}
 use Rattle.lane.proofs.transfer.put_road.Tie as tie
 
@@ -39,10 +39,10 @@ returns c =
     let end = limit .before .before .before .before .before in
     let surface = end .before .before .before .before .before in
     let start = surface .before .before .before .before in
-    let first = put-first surfaceKey (start .args .road .surface) (start .args .at) (start .args .out .now) _ _ (surface .put-decimal-line .ensures) in
-    let second = put-next first endKey (start .args .road .end) _ _ (end .put-decimal-line2 .ensures) in
-    let third = put-next second limitKey (start .args .road .limit) _ _ (limit .put-decimal-line3 .ensures) in
-    group-put (put-next third cycleKey (start .args .cycle) _ _ (cycle .put-decimal-line4 .ensures)) (start .pre)
+    let first = put-first (keyAt roadKeys 0) (start .args .road .surface) (start .args .at) (start .args .out .now) _ _ (surface .put-decimal-line .ensures) in
+    let second = put-next first (keyAt roadKeys 1) (start .args .road .end) _ _ (end .put-decimal-line2 .ensures) in
+    let third = put-next second (keyAt roadKeys 2) (start .args .road .limit) _ _ (limit .put-decimal-line3 .ensures) in
+    group-put (put-next third (keyAt roadKeys 3) (start .args .cycle) _ _ (cycle .put-decimal-line4 .ensures)) (start .pre)
 
 pub put-road-spec : {M : Type 1} → statement M
 put-road-spec =

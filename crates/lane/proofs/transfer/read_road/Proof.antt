@@ -1,7 +1,7 @@
 -- Each field is read where the one before ends.
 use borrow.Author.Needs.{needs}
-use Rattle.text.proofs.GroupLaws.{group-first, group-next, group-read}
-use Rattle.lane.specs.Handover.{surfaceKey, endKey, limitKey, cycleKey}
+use Rattle.text.proofs.GroupLaws.{keyAt, group-first, group-next, group-read}
+use Rattle.lane.specs.Handover.{roadKeys}
 use Rattle.lane.proofs.transfer.read_road.Statement.{statement}
 use Rattle.lane.proofs.transfer.read_road.Tie as tie
 
@@ -36,10 +36,10 @@ returns c =
     let end = limit .before .before in
     let surface = end .before .before in
     let a = surface .before .before .before .args in
-    let first = group-first surfaceKey (a .text .now) (a .at) (surface .read-field .result) (surface .read-field .ensures) in
-    let second = group-next first endKey (end .read-field2 .result) (end .read-field2 .ensures) in
-    let third = group-next second limitKey (limit .read-field3 .result) (limit .read-field3 .ensures) in
-    group-read (group-next third cycleKey (cycle .read-field4 .result) (cycle .read-field4 .ensures))
+    let first = group-first (keyAt roadKeys 0) (a .text .now) (a .at) (surface .read-field .result) (surface .read-field .ensures) in
+    let second = group-next first (keyAt roadKeys 1) (end .read-field2 .result) (end .read-field2 .ensures) in
+    let third = group-next second (keyAt roadKeys 2) (limit .read-field3 .result) (limit .read-field3 .ensures) in
+    group-read (group-next third (keyAt roadKeys 3) (cycle .read-field4 .result) (cycle .read-field4 .ensures))
 
 pub read-road-spec : {M : Type 1} → statement M
 read-road-spec =
