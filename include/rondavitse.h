@@ -1,8 +1,9 @@
 /* Rondavitse: a supervisor for a lane of self-driving container carriers.
  *
- * A lane is a struct of the host's own: each call is lent it and changes it in place. A host begins with rondavitse_empty: a lane of zeros
- * has unsound rows, and a start there gives 21 until a table is loaded. `no` is 0 where a call is accepted; else it is the number of its
- * refusal, every value beside it is zero (but for a step's `next` and `stop`), and every word of the lane and every lent byte is as before.
+ * A lane is a struct of the host's own: each call is lent it and changes it in place. A host begins with rondavitse_empty, or goes on with
+ * another host's lane by rondavitse_take_over; a lane of zeros has unsound rows, and a start there gives 21 until a table is loaded. `no` is 0
+ * where a call is accepted; else it is the number of its refusal, every value beside it is zero (but for a step's `next` and `stop`), and every
+ * word of the lane and every lent byte is as before, with one exception: a refused rondavitse_take_over leaves an empty lane.
  * Positions and lengths count 1/2048 m, speeds 1/128 m/s, accelerations and braking rates 1/16 m/s²; a cycle is 1/8 s. A carrier's position
  * is that of its front; its tail is its length behind that, and may be before the lane's start.
  *
@@ -11,7 +12,8 @@
  * - `lane` points to a whole lane, aligned as the struct is, that nobody else uses during the call; others may read one that is const;
  * - any other pointer is to as many elements as the length beside it says, and never null;
  * - nothing that is lent overlaps a lane that is not const, nor a buffer to write to.
- * What is promised of a lane over many calls holds if each call gets it as the one before has left it.
+ * What is promised of a lane over many calls holds from rondavitse_empty or rondavitse_take_over on, whether that is accepted or not, if each
+ * call gets the lane as the one before has left it.
  *
  * The library, libhost.a, is for x86-64 Linux and its C calling convention (System V), and position independent. It needs memcpy and memset
  * and nothing else, has no state of its own and allocates nothing: any threads may call it at once, each with a lane of its own. No call
@@ -32,7 +34,7 @@ extern "C" {
 
 /* The number of this interface, another one whenever a struct, a number, a constant or a function changes, a function in its form or in what it
  * answers. A host asks the library for its own before the first call: where they differ, header and library do not belong together. */
-#define RONDAVITSE_VERSION 7
+#define RONDAVITSE_VERSION 8
 uint32_t rondavitse_version(void);
 
 #define RONDAVITSE_LAST_SURFACE 7
@@ -45,6 +47,7 @@ uint32_t rondavitse_version(void);
 #define RONDAVITSE_MOST_CARRIERS 64
 #define RONDAVITSE_LAST_CYCLE UINT64_MAX /* the cycle number after which no cycle is run */
 #define RONDAVITSE_LONGEST_TEXT 3720     /* bytes: a buffer that holds every lane text */
+#define RONDAVITSE_LONGEST_HANDOVER 4071 /* bytes: a buffer that holds every handover text */
 #define RONDAVITSE_ANSWER_BUFFER 4096    /* bytes: the least buffer of a step */
 #define RONDAVITSE_MOST_STACK 4096       /* bytes */
 
@@ -76,7 +79,9 @@ enum rondavitse_refusal {
     RONDAVITSE_LANE_OCCUPIED = 32,
     RONDAVITSE_LENGTH_TOO_LARGE = 33,
     RONDAVITSE_SURFACE_UNSAFE = 34,
-    RONDAVITSE_RATE_OUT_OF_RANGE = 35
+    RONDAVITSE_RATE_OUT_OF_RANGE = 35,
+    RONDAVITSE_HANDOVER_MALFORMED = 36,
+    RONDAVITSE_HANDOVER_UNSAFE = 37
 };
 
 static inline const char *rondavitse_words(uint32_t no) {
@@ -108,6 +113,8 @@ static inline const char *rondavitse_words(uint32_t no) {
     case RONDAVITSE_LENGTH_TOO_LARGE: return "length above 65,535";
     case RONDAVITSE_SURFACE_UNSAFE: return "the lane would not be safe on that surface";
     case RONDAVITSE_RATE_OUT_OF_RANGE: return "own rate outside 1 to 255";
+    case RONDAVITSE_HANDOVER_MALFORMED: return "no handover text, or of a lane that breaks a rule other than safety";
+    case RONDAVITSE_HANDOVER_UNSAFE: return "the lane handed over is not safe";
     default: return "unknown refusal";
     }
 }
@@ -158,9 +165,10 @@ typedef struct rondavitse_record {
     uint64_t free[3];
 } rondavitse_record;
 
-/* The first `count` records are the carriers, front to back. An unsound row in either set gets 21, but for what is said at load and start; a
- * started lane with one among `next_rows` can do neither, and has to be made empty. No call's answer depends on a word called free, nor on
- * the records past the carriers; a call that is accepted and changes the lane may leave anything there, but for rondavitse_surface. */
+/* The first `count` records are the carriers, front to back. An unsound row in either set gets 21, but for what is said at load, start and take
+ * over; a started lane with one among `next_rows` can neither load nor start, and has to be made empty. No call's answer depends on a word
+ * called free, nor on the records past the carriers; a call that is accepted and changes the lane may leave anything there, but for
+ * rondavitse_surface. */
 typedef struct rondavitse_lane {
     uint64_t started; /* 1; any other word counts as never started */
     uint64_t surface;
@@ -281,6 +289,27 @@ rondavitse_read_out rondavitse_read(const rondavitse_lane *lane, uint64_t number
 
 /* The lane as lines of text at the buffer's start; bytes after the text stay as they were. Checks: 21, 9. */
 rondavitse_listed rondavitse_lane_text(const rondavitse_lane *lane, uint8_t *out, size_t out_length);
+
+/* The whole lane as lines of text at the buffer's start, for the host that goes on with it: `rows` as a table text, `next_rows` as another with
+ * nothing between, `surface=`, `end=`, `limit=` and `cycle=`, then the lane text, `cars=` and of each carrier, front to back, `car=`, `at=`,
+ * `speed=`, `length=` and `brake=`. Each line has its newline, and numbers are decimal without leading zeros. There is nothing in it but ASCII,
+ * and no zero byte: it may go through a file or a pipe. Free words and idle records are not in it, so that one lane has one text. Bytes after
+ * the text stay as they were, and the lane is not changed. Checks: 21; 9, for this text. */
+rondavitse_listed rondavitse_handover(const rondavitse_lane *lane, uint8_t *out, size_t out_length);
+
+/* Makes the lane that a handover text names; gives `no`. What the struct held is not looked at: it may be anything, uninitialised too. The text
+ * is only read, and only that is taken which rondavitse_handover writes: what it wrote of any lane is accepted, and of a lane taken over it writes
+ * the same bytes again. The lane is then started, with both sets of rows, surface, end, limit, cycle number and carriers of the text; its free
+ * words and idle records may be anything. It is as good a beginning as an empty lane.
+ *
+ * A refusal leaves AN EMPTY LANE, every word as rondavitse_empty makes it, and not the one that was there. Checks in order:
+ * - 36, a text of another form: another key or order of lines, a line without its newline or longer than 64 bytes with it, a number with a sign,
+ *   with a leading zero or past its width (16 bits for `car`, 64 for `cycle` and for rows, 32 for the others), `cars` above 64, more or fewer
+ *   carriers than it says, a byte after the last line; or a rule broken that 21 looks at, other than safety: surface, end or limit outside its
+ *   range, an unsound row in either set, a number 0 or twice, a speed above the limit, a length above 65,535, an own rate outside 1 to 255, a
+ *   tail at or past the end;
+ * - 37, a lane that is not safe by the row in force of its surface: carriers that are out of order, level, overlapping or too close to stop. */
+uint32_t rondavitse_take_over(rondavitse_lane *lane, const uint8_t *text, size_t text_length);
 
 /* One block of call texts, read at the place `at` of the input and run on the lane; its answer is put at the buffer's start, and the bytes
  * after it stay as they were. A refused block's answer is `no=` and its number, 8 for a malformed one: the step itself is then not refused.

@@ -6,7 +6,7 @@ import ctypes
 import sys
 from ctypes import byref, c_bool, c_char_p, c_double, c_size_t, c_uint8, c_uint32, c_uint64
 
-VERSION, SURFACES, WORDS_OF_A_LANE = 7, 8, 712  # of the interface that the structs below are of
+VERSION, SURFACES, WORDS_OF_A_LANE = 8, 8, 712  # of the interface that the structs below are of
 UNITS, HOLD = 0, 3
 
 

@@ -1,7 +1,7 @@
 //! The functions and structs of `rondavitse.h`.
 
 /// The interface that this file is for.
-pub const VERSION: u32 = 7;
+pub const VERSION: u32 = 8;
 pub const SURFACES: usize = 8;
 pub const MOST_CARRIERS: usize = 64;
 pub const LONGEST_TEXT: usize = 3_720;
