@@ -51,6 +51,19 @@ static inline void same_state(const char *call, const rondavitse_lane *got, cons
     }
 }
 
+/* What rondavitse_empty makes: the house rows in both sets, and every other word 0. */
+static inline rondavitse_lane house_lane(void) {
+    const rondavitse_row house[SURFACES] = {
+        {64, 128, 32, {0}}, {56, 120, 32, {0}}, {48, 112, 24, {0}}, {40, 96, 24, {0}},
+        {32, 96, 16, {0}},  {16, 64, 12, {0}},  {6, 48, 8, {0}},    {1, 255, 1, {0}},
+    };
+    rondavitse_lane lane;
+    memset(&lane, 0, sizeof lane);
+    memcpy(lane.rows, house, sizeof house);
+    memcpy(lane.next_rows, house, sizeof house);
+    return lane;
+}
+
 /* The rows of a set; their free words stay. */
 static void put_rows(rondavitse_row *rows, size_t first) {
     for (size_t code = 0; code < SURFACES; code++) {
@@ -131,6 +144,45 @@ static inline size_t wanted_text(char *text, const rondavitse_lane *lane) {
                                   c->number, c->position, c->speed, c->length, c->rate);
     }
     return length;
+}
+
+/* Every figure with all its digits, the foremost with its front past the end. */
+static inline rondavitse_lane longest_lane(void) {
+    rondavitse_lane lane = lane_of(MOST);
+    for (size_t code = 0; code < SURFACES; code++) {
+        const rondavitse_row row = {RONDAVITSE_HIGHEST_RATE, RONDAVITSE_HIGHEST_RATE, RONDAVITSE_HIGHEST_RATE, {0}};
+        lane.rows[code] = row;
+        lane.next_rows[code] = row;
+    }
+    lane.end = RONDAVITSE_FARTHEST_END;
+    lane.limit = RONDAVITSE_FASTEST;
+    lane.cycle = RONDAVITSE_LAST_CYCLE;
+    for (size_t place = 0; place < MOST; place++) {
+        rondavitse_record *carrier = &lane.records[place];
+        carrier->length = RONDAVITSE_LONGEST_CARRIER;
+        carrier->position = lane.end - 1 + carrier->length - 0x00102030 * place;
+        carrier->speed = 1000;
+        carrier->rate = RONDAVITSE_HIGHEST_RATE;
+    }
+    return lane;
+}
+
+static inline size_t wanted_table(char *text, const rondavitse_row *rows) {
+    size_t length = 0;
+    for (size_t code = 0; code < SURFACES; code++) {
+        const rondavitse_row *row = &rows[code];
+        length += (size_t)sprintf(text + length, "b=%" PRIu64 "\nB=%" PRIu64 "\nA=%" PRIu64 "\n", row->guaranteed, row->hardest, row->most);
+    }
+    return length;
+}
+
+/* Writes what the handover text should be; gives its length. */
+static inline size_t wanted_handover(char *text, const rondavitse_lane *lane) {
+    size_t length = wanted_table(text, lane->rows);
+    length += wanted_table(text + length, lane->next_rows);
+    length += (size_t)sprintf(text + length, "surface=%" PRIu64 "\nend=%" PRIu64 "\nlimit=%" PRIu64 "\ncycle=%" PRIu64 "\n", lane->surface, lane->end,
+                              lane->limit, lane->cycle);
+    return length + wanted_text(text + length, lane);
 }
 
 /* An empty lane on a house row. */

@@ -80,14 +80,7 @@ static void take_out(rondavitse_lane *lane, size_t place) {
 }
 
 static void check_empty(void) {
-    const rondavitse_row house[SURFACES] = {
-        {64, 128, 32, {0}}, {56, 120, 32, {0}}, {48, 112, 24, {0}}, {40, 96, 24, {0}},
-        {32, 96, 16, {0}},  {16, 64, 12, {0}},  {6, 48, 8, {0}},    {1, 255, 1, {0}},
-    };
-    rondavitse_lane got = unsound_lane(), wanted;
-    memset(&wanted, 0, sizeof wanted);
-    memcpy(wanted.rows, house, sizeof house);
-    memcpy(wanted.next_rows, house, sizeof house);
+    rondavitse_lane got = unsound_lane(), wanted = house_lane();
     rondavitse_empty(&got);
     same_words("empty", &got, &wanted);
 }
@@ -278,20 +271,45 @@ static void check_lane_text(void) {
     same_words("lane text", &lane, &kept);
 }
 
-/* Every figure with all its digits, the foremost with its front past the end: the text fills its buffer, and one byte less is too few. */
+/* The text fills its buffer, and one byte less is too few. */
 static void check_longest_text(void) {
-    rondavitse_lane lane = lane_of(MOST);
+    const rondavitse_lane lane = longest_lane();
     uint8_t text[RONDAVITSE_LONGEST_TEXT];
-    lane.end = RONDAVITSE_FARTHEST_END;
-    for (size_t place = 0; place < MOST; place++) {
-        rondavitse_record *carrier = &lane.records[place];
-        carrier->length = RONDAVITSE_LONGEST_CARRIER;
-        carrier->position = lane.end - 1 + carrier->length - 0x00102030 * place;
-        carrier->speed = 1000;
-        carrier->rate = RONDAVITSE_HIGHEST_RATE;
-    }
     same("longest text", "no", rondavitse_lane_text(&lane, text, sizeof text - 1).no, RONDAVITSE_TEXT_BUFFER_TOO_SHORT);
     same("longest text", "length", rondavitse_lane_text(&lane, text, sizeof text).length, sizeof text);
+}
+
+static void check_handover(void) {
+    const rondavitse_lane lane = lane_of(MOST), kept = lane;
+    uint8_t text[RONDAVITSE_LONGEST_HANDOVER];
+    char wanted[RONDAVITSE_LONGEST_HANDOVER + 1];
+    const size_t length = wanted_handover(wanted, &lane);
+    memset(text, 0x5A, sizeof text);
+    memset(wanted + length, 0x5A, sizeof text - length);
+    const rondavitse_listed got = rondavitse_handover(&lane, text, sizeof text);
+    same("handover", "no", got.no, 0);
+    same("handover", "length", got.length, length);
+    same("handover", "bytes", (uint64_t)memcmp(text, wanted, sizeof text), 0);
+    same_words("handover", &lane, &kept);
+}
+
+static void check_longest_handover(void) {
+    const rondavitse_lane lane = longest_lane();
+    uint8_t text[RONDAVITSE_LONGEST_HANDOVER];
+    same("longest handover", "no", rondavitse_handover(&lane, text, sizeof text - 1).no, RONDAVITSE_TEXT_BUFFER_TOO_SHORT);
+    same("longest handover", "length", rondavitse_handover(&lane, text, sizeof text).length, sizeof text);
+}
+
+/* Into a struct that nobody has written to, which a memory checker sees; then into one with a lane that only a start accepts. */
+static void check_take_over(void) {
+    char text[RONDAVITSE_LONGEST_HANDOVER + 1];
+    const rondavitse_lane wanted = lane_of(MOST);
+    const size_t length = wanted_handover(text, &wanted);
+    rondavitse_lane fresh, used = unsound_lane();
+    same("take over", "no", rondavitse_take_over(&fresh, (const uint8_t *)text, length), 0);
+    same_state("take over", &fresh, &wanted);
+    same("take over", "no", rondavitse_take_over(&used, (const uint8_t *)text, length), 0);
+    same_state("take over", &used, &wanted);
 }
 
 /* The second of two blocks, and then what follows it, which is no block. */
@@ -363,6 +381,9 @@ int main(void) {
     check_row_of_surface();
     check_lane_text();
     check_longest_text();
+    check_handover();
+    check_longest_handover();
+    check_take_over();
     check_step();
     check_idle_steps();
     return verdict();

@@ -1,5 +1,5 @@
-/* That of a line without an end no more than 64 bytes are looked at, the most that a line has with its newline, and no byte past a table
- * text's end: the bytes after them are on pages that cannot be read, so that one look further ends this program. */
+/* That of a line without an end no more than 64 bytes are looked at, the most that a line has with its newline, and no byte past the end of a
+ * table text or a handover text: the bytes after them are on pages that cannot be read, so that one look further ends this program. */
 #define _DEFAULT_SOURCE /* mmap's MAP_ANONYMOUS */
 #include "compare.h"
 #include "pages.h"
@@ -54,6 +54,15 @@ static void expect_malformed_table(const char *text, size_t length) {
     expect_load(RONDAVITSE_TABLE_UNSOUND, text, length, UNREADABLE);
 }
 
+/* A refused reading leaves an empty lane. */
+static void expect_malformed_handover(const char *text, size_t length) {
+    rondavitse_lane lane = any_lane(), empty;
+    rondavitse_empty(&empty);
+    const size_t at = put_at_end(text, length);
+    same(text, "no", rondavitse_take_over(&lane, page + at, length + UNREADABLE), RONDAVITSE_HANDOVER_MALFORMED);
+    same(text, "lane", (uint64_t)memcmp(&lane, &empty, sizeof lane), 0);
+}
+
 /* After `lines` one that begins so and goes on with `filling`: 64 bytes with no end that can be read, then 64 and 65 with their newline. No
  * line that means something is so long. */
 static void check_line(void (*expect_malformed)(const char *, size_t), const char *lines, const char *begun, char filling) {
@@ -105,9 +114,33 @@ static void check_tables(void) {
     expect_load(RONDAVITSE_ACCEPTED, text, length, 0);
 }
 
+/* That of a lane with one carrier, and a zero byte after it. */
+static size_t handover_text(char *text, size_t room) {
+    rondavitse_lane lane;
+    rondavitse_empty(&lane);
+    rondavitse_start(&lane, (rondavitse_road){.surface = 0, .end = 100, .limit = 100}, 0);
+    same("enter", "no", rondavitse_enter(&lane, (rondavitse_carrier){.number = 1, .rate = 1}).no, RONDAVITSE_ACCEPTED);
+    return rondavitse_handover(&lane, (uint8_t *)text, room - 1).length;
+}
+
+/* Each line of a handover text in turn without an end, and all of it with more after it that cannot be read. */
+static void check_handovers(void) {
+    char text[TABLE_BUFFER] = "", lines[TABLE_BUFFER], begun[16];
+    const size_t length = handover_text(text, sizeof text);
+    for (const char *line = text; line < text + length; line = strchr(line, '\n') + 1) {
+        sprintf(lines, "%.*s", (int)(line - text), text);
+        sprintf(begun, "%.*s", (int)(strchr(line, '=') + 1 - line), line);
+        check_line(expect_malformed_handover, lines, begun, '0');
+        check_line(expect_malformed_handover, lines, begun, '1');
+        check_line(expect_malformed_handover, lines, "", 'x');
+    }
+    expect_malformed_handover(text, length);
+}
+
 int main(void) {
     page = boundary_of(READABLE, UNREADABLE) - READABLE;
     check_blocks();
     check_tables();
+    check_handovers();
     return verdict();
 }

@@ -172,7 +172,7 @@ static void check_floats(void) {
 
 static void check_words(void) {
     for (uint32_t no = 0; no < 100; no++) {
-        const bool known = no <= 13 || (no >= 21 && no <= 28) || (no >= 31 && no <= 35);
+        const bool known = no <= 13 || (no >= 21 && no <= 28) || (no >= 31 && no <= 37);
         same("words", "known", strcmp(rondavitse_words(no), "unknown refusal") != 0, known);
     }
     same("words", "of the largest number", (uint64_t)strcmp(rondavitse_words(UINT32_MAX), "unknown refusal"), 0);

@@ -1,4 +1,5 @@
-/* That a refused call gives its number and zeros, and changes no word of the lane and no lent byte. */
+/* That a refused call gives its number and zeros, and changes no word of the lane and no lent byte; but a refused reading of a handover text
+ * leaves an empty lane. */
 #include "lanes.h"
 
 static void refused_start(uint32_t no, rondavitse_road road, rondavitse_lane lane) {
@@ -44,15 +45,46 @@ static void refused_named(uint32_t no, uint64_t number, rondavitse_lane lane) {
     same_words("refused read", &lane, &kept);
 }
 
-static void refused_text(uint32_t no, rondavitse_lane lane) {
+/* The lane text and the handover text, in a buffer of so many bytes. */
+static void refused_texts(uint32_t no, size_t length, rondavitse_lane lane) {
+    const struct {
+        const char *name;
+        rondavitse_listed (*write)(const rondavitse_lane *, uint8_t *, size_t);
+    } texts[] = {{"refused lane text", rondavitse_lane_text}, {"refused handover", rondavitse_handover}};
     const rondavitse_lane kept = lane;
-    uint8_t text[2] = {0x5A, 0xA5};
-    const rondavitse_listed got = rondavitse_lane_text(&lane, text, sizeof text);
-    same("refused lane text", "no", got.no, no);
-    same("refused lane text", "length", got.length, 0);
-    same("refused lane text", "first byte", text[0], 0x5A);
-    same("refused lane text", "second byte", text[1], 0xA5);
-    same_words("refused lane text", &lane, &kept);
+    for (size_t i = 0; i < sizeof texts / sizeof texts[0]; i++) {
+        uint8_t text[RONDAVITSE_LONGEST_HANDOVER], kept_text[RONDAVITSE_LONGEST_HANDOVER];
+        memset(text, 0x5A, sizeof text);
+        memcpy(kept_text, text, sizeof text);
+        const rondavitse_listed got = texts[i].write(&lane, text, length);
+        same(texts[i].name, "no", got.no, no);
+        same(texts[i].name, "length", got.length, 0);
+        same(texts[i].name, "bytes", (uint64_t)memcmp(text, kept_text, sizeof text), 0);
+        same_words(texts[i].name, &lane, &kept);
+    }
+}
+
+/* Into a struct that nobody has written to, into bytes of every sort and into lanes in use: what is left is the empty lane. */
+static void refused_take_over(uint32_t no, const char *text, size_t length) {
+    const int fillings[] = {0x00, 0x01, 0x5A, 0xB7, 0xFF};
+    const rondavitse_lane empty = house_lane();
+    rondavitse_lane fresh, lanes[] = {lane_of(0), lane_of(2), lane_of(MOST), unsound_lane(), empty};
+    same("refused take over", "no", rondavitse_take_over(&fresh, (const uint8_t *)text, length), no);
+    same_words("refused take over", &fresh, &empty);
+    for (size_t i = 0; i < 5; i++) {
+        rondavitse_lane lane;
+        memset(&lane, fillings[i], sizeof lane);
+        same("refused take over", "no", rondavitse_take_over(&lane, (const uint8_t *)text, length), no);
+        same_words("refused take over", &lane, &empty);
+        same("refused take over", "no", rondavitse_take_over(&lanes[i], (const uint8_t *)text, length), no);
+        same_words("refused take over", &lanes[i], &empty);
+    }
+}
+
+/* The text that a lane would have. */
+static void refused_lane_of_text(uint32_t no, rondavitse_lane lane) {
+    char text[2 * RONDAVITSE_LONGEST_HANDOVER];
+    refused_take_over(no, text, wanted_handover(text, &lane));
 }
 
 /* Two wishes, or one value fewer. */
@@ -96,7 +128,8 @@ static void check_21(rondavitse_lane lane) {
     refused_opening(21, 0, 0, (rondavitse_newcomer){0, UINT64_MAX, 0}, lane);
     refused_opening(21, 1, 0, (rondavitse_newcomer){0, 0, 1}, lane); /* the lane is unsound for any newcomer */
     refused_named(21, 0, lane);
-    refused_text(21, lane);
+    refused_texts(21, 0, lane);
+    refused_texts(21, RONDAVITSE_LONGEST_HANDOVER, lane);
     refused_cycle(21, 3, no_sorts, 1, lane);
     refused_block(21, "call=enter\ncar=0\nat=0\nspeed=0\nlength=65536\nbrake=0\n", lane);
     refused_block(21, "call=leave\ncar=0\n", lane);
@@ -306,7 +339,32 @@ static void check_refused_arguments(void) {
     refused_named(4, 0, lane);
     refused_named(4, carrier_at(1).number + wide, lane);
     refused_named(24, carrier_at(7).number, lane);
-    refused_text(9, lane);
+    refused_texts(9, 0, lane);
+    refused_texts(9, 2, lane);
+}
+
+/* An empty text, one cut short and one with a byte after it; then lanes that break a rule other than safety, unsafe ones, and those with both
+ * faults: 36 comes before 37. */
+static void check_refused_take_overs(void) {
+    char text[RONDAVITSE_LONGEST_HANDOVER + 1];
+    rondavitse_lane lane = lane_of(2);
+    const size_t length = wanted_handover(text, &lane);
+    text[length] = '\n';
+    refused_take_over(36, text, 0);
+    refused_take_over(36, text, length - 1);
+    refused_take_over(36, text, length + 1);
+    lane.next_rows[7].most = 0;
+    refused_lane_of_text(36, lane);
+    lane = lane_near();
+    lane.records[1].rate = 1;
+    refused_lane_of_text(37, lane);
+    lane.rows[0].guaranteed = 0;
+    refused_lane_of_text(36, lane);
+    lane = lane_near();
+    lane.records[1].position = lane.records[0].position;
+    refused_lane_of_text(37, lane);
+    lane.records[1].number = lane.records[0].number;
+    refused_lane_of_text(36, lane);
 }
 
 static void check_refused_cycles(void) {
@@ -335,5 +393,6 @@ int main(void) {
     check_refused_openings();
     check_refused_arguments();
     check_refused_cycles();
+    check_refused_take_overs();
     return verdict();
 }
