@@ -5,6 +5,7 @@ pub const VERSION: u32 = 8;
 pub const SURFACES: usize = 8;
 pub const MOST_CARRIERS: usize = 64;
 pub const LONGEST_TEXT: usize = 3_720;
+pub const LONGEST_HANDOVER: usize = 4_071;
 pub const ANSWER_BUFFER: usize = 4_096;
 
 #[repr(C)]
@@ -176,6 +177,8 @@ extern "C" {
     ) -> Cycled;
     pub fn rondavitse_read(lane: &Lane, number: u64) -> ReadOut;
     pub fn rondavitse_lane_text(lane: &Lane, out: *mut u8, out_length: usize) -> Listed;
+    pub fn rondavitse_handover(lane: &Lane, out: *mut u8, out_length: usize) -> Listed;
+    pub fn rondavitse_take_over(lane: &mut Lane, text: *const u8, text_length: usize) -> u32;
     pub fn rondavitse_step(
         lane: &mut Lane,
         input: *const u8,

@@ -36,6 +36,20 @@ pub struct Cycled {
     pub gone: u32,
 }
 
+/// What a step over call texts did.
+#[derive(Clone, Debug, PartialEq, Eq)]
+pub struct Stepped {
+    /// Of the block that was run, or `no=8` for a malformed one.
+    pub answer: String,
+    /// Where the next block begins.
+    pub next: usize,
+    /// Nothing is left to run.
+    pub stop: bool,
+}
+
+/// A function that writes the lane into a buffer.
+type Writer = unsafe extern "C" fn(&binding::Lane, *mut u8, usize) -> Listed;
+
 /// A lane that only the supervisor changes, in place: each call gets it as the
 /// one before has left it, which is what the supervisor's promises are about.
 pub struct Lane(binding::Lane);
@@ -69,6 +83,14 @@ impl Lane {
             "the library's version"
         );
         Lane(binding::Lane::empty())
+    }
+
+    /// The lane that another host has handed over by its text, to go on with.
+    /// Panics as `empty` does.
+    pub fn take_over(text: &[u8]) -> Result<Lane, Refusal> {
+        let mut lane = Lane::empty();
+        Refusal::check(unsafe { rondavitse_take_over(&mut lane.0, text.as_ptr(), text.len()) })?;
+        Ok(lane)
     }
 
     /// Takes a terminal's own surface figures, 24 lines `b=`, `B=` and `A=` row
@@ -144,11 +166,34 @@ impl Lane {
 
     /// The lane as lines of text.
     pub fn text(&self) -> Result<String, Refusal> {
-        let mut text = vec![0; LONGEST_TEXT];
-        let answer = unsafe { rondavitse_lane_text(&self.0, text.as_mut_ptr(), text.len()) };
+        self.written(rondavitse_lane_text, LONGEST_TEXT)
+    }
+
+    /// The whole lane as lines of text, for the host that takes it over.
+    pub fn handover(&self) -> Result<String, Refusal> {
+        self.written(rondavitse_handover, LONGEST_HANDOVER)
+    }
+
+    /// What a function writes into a buffer of so many bytes.
+    fn written(&self, write: Writer, longest: usize) -> Result<String, Refusal> {
+        let mut text = vec![0; longest];
+        let answer = unsafe { write(&self.0, text.as_mut_ptr(), text.len()) };
         Refusal::check(answer.no)?;
-        text.truncate(answer.length);
-        Ok(String::from_utf8(text).expect("a lane text is ASCII"))
+        Ok(ascii(text, answer.length))
+    }
+
+    /// Runs the block of call texts that begins at a place of the input.
+    pub fn step(&mut self, input: &[u8], at: usize) -> Result<Stepped, Refusal> {
+        let mut out = vec![0; ANSWER_BUFFER];
+        let (i, o) = (input.as_ptr(), out.as_mut_ptr());
+        let (given, room) = (input.len(), out.len());
+        let answer = unsafe { rondavitse_step(&mut self.0, i, given, at, o, room) };
+        Refusal::check(answer.no)?;
+        Ok(Stepped {
+            answer: ascii(out, answer.written),
+            next: answer.next,
+            stop: answer.stop,
+        })
     }
 
     /// The surface in force, the lane end and the speed limit.
@@ -161,4 +206,10 @@ impl Lane {
         let records = &self.0.records[..self.0.count as usize];
         records.iter().map(|record| record.carrier)
     }
+}
+
+/// The text at a buffer's start.
+fn ascii(mut bytes: Vec<u8>, length: usize) -> String {
+    bytes.truncate(length);
+    String::from_utf8(bytes).expect("what the supervisor writes is ASCII")
 }

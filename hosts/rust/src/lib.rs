@@ -7,5 +7,5 @@ pub mod binding;
 pub mod lane;
 pub mod refusal;
 
-pub use lane::{Carrier, Cycled, Gap, Lane, Newcomer, Reading, Road, Wish, MOST_CARRIERS};
+pub use lane::{Carrier, Cycled, Gap, Lane, Newcomer, Reading, Road, Stepped, Wish, MOST_CARRIERS};
 pub use refusal::Refusal;

@@ -1,8 +1,9 @@
 //! A worked host: five minutes of a lane with an entry at its start, a side
 //! road whose carriers wait for an opening, an exit and an end that carriers run
 //! out at, on surface figures of the terminal's own; some trailers are loaded,
-//! and for a while it rains. It prints a summary that is the same in every run,
-//! and the same as that of the host in C.
+//! and for a while it rains. Halfway the lane is handed over as text and taken
+//! over again. It prints a summary that is the same in every run, and the same as
+//! that of the host in C.
 
 use rondavitse::{Carrier, Gap, Lane, Newcomer, Refusal, Road, Wish};
 use std::collections::BTreeMap;
@@ -12,6 +13,8 @@ use std::ops::{Range, RangeInclusive};
 const METRE: u64 = 2048;
 const METRE_PER_SECOND: u64 = 128;
 const CYCLES: u32 = 2_400;
+/// The cycle before which the lane is.
+const HANDED_OVER: u32 = 1_200;
 /// Surface codes.
 const DRY: u64 = 0;
 const WET: u64 = 4;
@@ -249,6 +252,25 @@ impl Host {
         Ok(())
     }
 
+    /// As when another host takes this one's place: nothing of the lane goes
+    /// over but its text. What a host knows beside the lane, as its next number,
+    /// is not in it.
+    fn change_hosts(&mut self) -> Result<(), Refusal> {
+        let text = self.lane.handover()?;
+        self.lane = Lane::take_over(text.as_bytes())?;
+        Ok(())
+    }
+
+    /// A file that was not yet whole, and one in which somebody has put the lane
+    /// on another surface, where nobody brakes so well.
+    fn try_take_overs(&self) -> Result<(), Refusal> {
+        let text = self.lane.handover()?;
+        let changed = text.replace("surface=0", "surface=7");
+        try_take_over("handover text cut short", &text[..text.len() - 1]);
+        try_take_over("handover text with another surface", &changed);
+        Ok(())
+    }
+
     /// A load that is refused leaves the lane, and the rows for its next start,
     /// as they were.
     fn try_table(&mut self, table: &str, text: &[u8]) {
@@ -306,6 +328,13 @@ impl Host {
     }
 }
 
+/// A text that is refused gives no lane.
+fn try_take_over(name: &str, text: &str) {
+    if let Err(refusal) = Lane::take_over(text.as_bytes()) {
+        println!("{name} refused with {refusal}");
+    }
+}
+
 fn surface_wanted(cycle: u32) -> u64 {
     if RAIN.contains(&cycle) {
         WET
@@ -349,6 +378,9 @@ fn wish_of(carrier: Carrier, place: usize, cycle: u32, slower: bool) -> Wish {
 fn main() -> Result<(), Refusal> {
     let mut host = Host::started()?;
     for cycle in 0..CYCLES {
+        if cycle == HANDED_OVER {
+            host.change_hosts()?;
+        }
         host.try_surface(cycle)?;
         host.let_carriers_in(cycle)?;
         host.drive(cycle)?;
@@ -358,5 +390,6 @@ fn main() -> Result<(), Refusal> {
     host.try_table("table on a lane in use", TABLE);
     host.try_table("table cut short", &TABLE[..TABLE.len() - 1]);
     host.try_opening("opening behind a carrier that is gone", Gap::Behind(1));
+    host.try_take_overs()?;
     host.print_summary()
 }

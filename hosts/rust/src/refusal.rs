@@ -33,12 +33,14 @@ pub enum Refusal {
     LengthTooLarge = 33,
     SurfaceUnsafe = 34,
     RateOutOfRange = 35,
+    HandoverMalformed = 36,
+    HandoverUnsafe = 37,
 }
 
 use Refusal::*;
 
 /// Every refusal and what it says.
-const WORDS: [(Refusal, &str); 26] = [
+const WORDS: [(Refusal, &str); 28] = [
     (SurfaceUnknown, "surface above 7"),
     (EndOutOfRange, "lane end outside 1 to 2^31"),
     (LimitOutOfRange, "limit outside 1 to 8,192"),
@@ -74,6 +76,11 @@ const WORDS: [(Refusal, &str); 26] = [
     (LengthTooLarge, "length above 65,535"),
     (SurfaceUnsafe, "the lane would not be safe on that surface"),
     (RateOutOfRange, "own rate outside 1 to 255"),
+    (
+        HandoverMalformed,
+        "no handover text, or of a lane that breaks a rule other than safety",
+    ),
+    (HandoverUnsafe, "the lane handed over is not safe"),
 ];
 
 impl Refusal {
