@@ -1,6 +1,6 @@
 /* A worked host: five minutes of a lane with an entry at its start, a side road whose carriers wait for an opening, an exit and an end that
- * carriers run out at, on surface figures of the terminal's own; some trailers are loaded, and for a while it rains. It prints a summary that is
- * the same in every run. */
+ * carriers run out at, on surface figures of the terminal's own; some trailers are loaded, and for a while it rains. Halfway the lane is handed over
+ * as text and taken over again. It prints a summary that is the same in every run. */
 #include "rondavitse.h"
 
 #include <math.h>
@@ -12,6 +12,7 @@ enum {
     METRE = 2048,           /* positions count 1/2048 m */
     METRE_PER_SECOND = 128, /* speeds count 1/128 m/s */
     CYCLES = 2400,          /* of 1/8 s */
+    HANDED_OVER = 1200,     /* the cycle before which the lane is */
     DRY = 0,                /* surface codes */
     WET = 4,
     RAIN_BEGINS = 900,      /* cycles */
@@ -24,7 +25,7 @@ enum {
     FULL = 24,              /* own braking rates of trailers: below the b of both surfaces, */
     HALF_FULL = 40,         /* of the dry one alone, */
     UNLOADED = 72,          /* and of neither */
-    LAST_REFUSAL = RONDAVITSE_RATE_OUT_OF_RANGE
+    LAST_REFUSAL = RONDAVITSE_HANDOVER_UNSAFE
 };
 
 /* What the terminal has measured of its concrete, a row for each surface code. */
@@ -316,6 +317,48 @@ static void let_carriers_out(host *h) {
     }
 }
 
+typedef struct {
+    char lines[RONDAVITSE_LONGEST_HANDOVER + 1]; /* a zero byte ends it here, and is no part of the text */
+} handover;
+
+static handover handover_of(const host *h) {
+    handover text;
+    const rondavitse_listed answer = rondavitse_handover(&h->lane, (uint8_t *)text.lines, RONDAVITSE_LONGEST_HANDOVER);
+    expect_accepted("handover", answer.no);
+    text.lines[answer.length] = '\0';
+    return text;
+}
+
+static uint32_t take_over(rondavitse_lane *lane, const handover *text) {
+    return rondavitse_take_over(lane, (const uint8_t *)text->lines, strlen(text->lines));
+}
+
+/* As when another host takes this one's place: nothing of the lane goes over but its text. What a host knows beside the lane, as its next number,
+ * is not in it. */
+static void change_hosts(host *h) {
+    const handover text = handover_of(h);
+    memset(&h->lane, 0xFF, sizeof h->lane);
+    expect_accepted("take over", take_over(&h->lane, &text));
+}
+
+/* A text that is refused makes an empty lane, so this one is not the host's. */
+static void try_take_over(const char *name, const handover *text) {
+    rondavitse_lane lane;
+    const uint32_t no = take_over(&lane, text);
+    if (no != RONDAVITSE_ACCEPTED) {
+        printf("%s refused with %u (%s)\n", name, (unsigned)no, rondavitse_words(no));
+    }
+}
+
+/* A file that was not yet whole, and one in which somebody has put the lane on another surface, where nobody brakes so well. */
+static void try_take_overs(const host *h) {
+    handover cut = handover_of(h), changed = cut;
+    cut.lines[strlen(cut.lines) - 1] = '\0';
+    try_take_over("handover text cut short", &cut);
+    strstr(changed.lines, "surface=")[strlen("surface=")] = '7';
+    try_take_over("handover text with another surface", &changed);
+}
+
 /* A load that is refused leaves the lane, and the rows for its next start, as they were. */
 static void try_table(host *h, const char *table, size_t length) {
     const uint32_t no = load(h, length);
@@ -365,6 +408,9 @@ int main(void) {
     expect_version();
     start(&h);
     for (int cycle = 0; cycle < CYCLES; cycle++) {
+        if (cycle == HANDED_OVER) {
+            change_hosts(&h);
+        }
         try_surface(&h, cycle);
         let_carriers_in(&h, cycle);
         drive(&h, cycle);
@@ -374,6 +420,7 @@ int main(void) {
     try_table(&h, "table on a lane in use", strlen(TABLE));
     try_table(&h, "table cut short", strlen(TABLE) - 1);
     try_opening(&h, "opening behind a carrier that is gone", 1);
+    try_take_overs(&h);
     print_summary(&h);
     return EXIT_SUCCESS;
 }
