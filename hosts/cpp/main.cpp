@@ -20,13 +20,24 @@ struct Wish {
 
 class Lane {
   public:
-    Lane(const std::string &table, rondavitse_road road, uint64_t first) {
-        if (rondavitse_version() != RONDAVITSE_VERSION) {
-            throw std::logic_error("header and library do not belong together");
-        }
+    Lane(const std::string &table, rondavitse_road road, uint64_t first) : Lane() {
         rondavitse_empty(&words);
-        check(rondavitse_load(&words, reinterpret_cast<const uint8_t *>(table.data()), table.size()));
+        check(rondavitse_load(&words, bytes(table), table.size()));
         check(rondavitse_start(&words, road, first));
+    }
+
+    // The lane that another host has handed over by its text.
+    static Lane take_over(const std::string &text) {
+        Lane lane;
+        check(rondavitse_take_over(&lane.words, bytes(text), text.size()));
+        return lane;
+    }
+
+    std::string handover() const {
+        std::array<uint8_t, RONDAVITSE_LONGEST_HANDOVER> text;
+        const rondavitse_listed answer = rondavitse_handover(&words, text.data(), text.size());
+        check(answer.no);
+        return std::string(text.begin(), text.begin() + answer.length);
     }
 
     void change_surface(uint64_t surface) {
@@ -66,6 +77,16 @@ class Lane {
     }
 
   private:
+    Lane() {
+        if (rondavitse_version() != RONDAVITSE_VERSION) {
+            throw std::logic_error("header and library do not belong together");
+        }
+    }
+
+    static const uint8_t *bytes(const std::string &text) {
+        return reinterpret_cast<const uint8_t *>(text.data());
+    }
+
     static void check(uint32_t no) {
         if (no != RONDAVITSE_ACCEPTED) {
             throw Refused(no);
@@ -95,6 +116,25 @@ static void try_surface(Lane &lane, uint64_t surface) {
     } catch (const Refused &refusal) {
         std::printf("surface %" PRIu64 " refused by %" PRIu32 ": %s\n", surface, refusal.no, refusal.what());
     }
+}
+
+static void try_take_over(const std::string &text) {
+    try {
+        Lane::take_over(text);
+    } catch (const Refused &refusal) {
+        std::printf("taking over refused by %" PRIu32 ": %s\n", refusal.no, refusal.what());
+    }
+}
+
+// As when another host takes this one's place: nothing goes over but the text.
+static Lane in_a_new_host(const Lane &lane) {
+    const std::string text = lane.handover();
+    std::printf("lane handed over in %zu bytes\n", text.size());
+    try_take_over(text.substr(0, text.size() - 1)); // a file that was not yet whole
+    std::string faster = text;
+    faster.replace(faster.find("speed=16"), 8, "speed=32"); // the second would not stop before the first's tail
+    try_take_over(faster);
+    return Lane::take_over(text);
 }
 
 // A carrier from a side road drives in behind another one, halfway between the ends of the opening; while there is none it waits a cycle, in
@@ -141,6 +181,7 @@ int main() {
     }
     try_surface(lane, UINT64_C(4294967297)); // 1 if it were cut
     try_surface(lane, 1);
+    lane = in_a_new_host(lane);
     const rondavitse_newcomer newcomer = {8, 50, 4};
     try_side_road(lane, UINT64_C(4294967303), 12, newcomer); // behind 7 if it were cut
     try_side_road(lane, 7, 12, newcomer);

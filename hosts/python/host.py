@@ -6,7 +6,7 @@ import ctypes
 import sys
 from ctypes import byref, c_bool, c_char_p, c_double, c_size_t, c_uint8, c_uint32, c_uint64
 
-VERSION, SURFACES, WORDS_OF_A_LANE = 8, 8, 712  # of the interface that the structs below are of
+VERSION, SURFACES, WORDS_OF_A_LANE, LONGEST_HANDOVER = 8, 8, 712, 4071  # of the interface that the structs below are of
 UNITS, HOLD = 0, 3
 
 
@@ -22,6 +22,7 @@ Entered = struct(no=c_uint32, place=c_size_t)
 Opening = struct(no=c_uint32, exists=c_bool, lowest=c_uint64, highest=c_uint64)
 Cycled = struct(no=c_uint32, word=c_uint64, replaced=c_uint32, gone=c_uint32)
 ReadOut = struct(no=c_uint32, position=c_double, speed=c_double)
+Listed = struct(no=c_uint32, length=c_size_t)
 
 
 class Refused(Exception):
@@ -44,13 +45,26 @@ def units(number):
 
 
 class Supervisor:
-    def __init__(self, path, table, road, first):
+    """A lane, to be started or taken over from another host."""
+
+    def __init__(self, path):
         self.library, self.lane = ctypes.CDLL(path), Lane()
         if self.called("version", c_uint32) != VERSION:
             raise ImportError(f"{path} is of another version")
+
+    def start(self, table, road, first):
         self.called("empty", None, byref(self.lane))
         self.check(self.called("load", c_uint32, byref(self.lane), table, c_size_t(len(table))))
         self.check(self.called("start", c_uint32, byref(self.lane), Road(*map(wide, road)), wide(first)))
+
+    def take_over(self, text):
+        """Where this is refused, the lane is an empty one afterwards."""
+        self.check(self.called("take_over", c_uint32, byref(self.lane), text, c_size_t(len(text))))
+
+    def handover(self):
+        text = (c_uint8 * LONGEST_HANDOVER)()
+        length = self.answer("handover", Listed, text, c_size_t(len(text))).length
+        return bytes(text[:length])
 
     def called(self, name, result, *arguments):
         function = self.library["rondavitse_" + name]
@@ -107,6 +121,23 @@ def try_surface(lane, surface):
         print("surface {} refused by {}: {}".format(surface, *refusal.args))
 
 
+def try_take_over(path, text):
+    try:
+        Supervisor(path).take_over(text)
+    except Refused as refusal:
+        print("taking over refused by {}: {}".format(*refusal.args))
+
+
+def in_a_new_host(path, lane):
+    """As when another host takes this one's place: nothing goes over but the text."""
+    text, new = lane.handover(), Supervisor(path)
+    print(f"lane handed over in {len(text)} bytes")
+    try_take_over(path, text[:-1])  # a file that was not yet whole
+    try_take_over(path, text.replace(b"speed=16", b"speed=32"))  # the second would not stop before the first's tail
+    new.take_over(text)
+    return new
+
+
 def enter_behind(lane, ahead, number, speed, length, rate):
     """A carrier from a side road drives in behind another one, halfway between the ends of the opening; while there is none it waits a cycle, in
     which the foremost speeds up, and asks again."""
@@ -127,7 +158,8 @@ def try_side_road(lane, ahead, *newcomer):
 def main(path):
     dry, wet = b"b=60\nB=120\nA=30\n", b"b=20\nB=80\nA=10\n"
     table = dry + wet * (SURFACES - 1)  # of a terminal on which all surfaces but the dry one are alike
-    lane = Supervisor(path, table, (0, 10000, 1000), 0)
+    lane = Supervisor(path)
+    lane.start(table, (0, 10000, 1000), 0)
     try_entry(lane, 7, 1000, 0, 200, 90)
     try_entry(lane, 8, 700, 64, 100, 40)  # loaded: its own rate, below the surface's b, would not stop it before the first's tail
     try_entry(lane, 8, 700, 64, 100, 48)
@@ -143,6 +175,7 @@ def main(path):
             print("cycle refused by {}: {}".format(*refusal.args))
     try_surface(lane, 4294967297)  # 1 if it were cut
     try_surface(lane, 1)
+    lane = in_a_new_host(path, lane)
     try_side_road(lane, 4294967303, 12, 8, 50, 4)  # behind 7 if it were cut
     try_side_road(lane, 7, 12, 8, 50, 4)
     print("opening ahead of all: {} to {}".format(*lane.opening_ahead_of_all(8, 50, 4)))
