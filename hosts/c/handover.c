@@ -72,7 +72,8 @@ static bool sound_carrier(const rondavitse_lane *lane, size_t place) {
 
 /* What 21 looks at, other than safety. */
 static bool sound_lane(const rondavitse_lane *lane) {
-    bool sound = lane->surface <= RONDAVITSE_LAST_SURFACE && within(lane->end, 1, RONDAVITSE_FARTHEST_END) && within(lane->limit, 1, RONDAVITSE_FASTEST);
+    bool sound = lane->surface <= RONDAVITSE_LAST_SURFACE && within(lane->end, 1, RONDAVITSE_FARTHEST_END) &&
+                 within(lane->limit, 1, RONDAVITSE_FASTEST);
     for (size_t code = 0; code < SURFACES; code++) {
         sound = sound && sound_row(&lane->rows[code]) && sound_row(&lane->next_rows[code]);
     }
@@ -296,7 +297,8 @@ static void check_values(const char *text, size_t length) {
         "", "0", "00", "01", "1", "2", "3", "7", "8", "9", "63", "64", "65", "100", "254", "255", "256", "257", "8191", "8192", "8193", "65534",
         "65535", "65536", "2147483647", "2147483648", "2147483649", "4294967295", "4294967296", "4294967297", "18446744073709551615",
         "18446744073709551616", "18446744073709551617", "99999999999999999999", "-1", "-0", "+1", " 1", "1 ", "1\r", "1\n", "0x1", "1e1", "1.0", "a",
-        "1=1", "000000000000000000000000000000000000000000000000000000000001", "111111111111111111111111111111111111111111111111111111111111111111111111",
+        "1=1", "000000000000000000000000000000000000000000000000000000000001",
+        "111111111111111111111111111111111111111111111111111111111111111111111111",
     };
     char changed[ROOM];
     for (const char *line = text; line < text + length; line = strchr(line, '\n') + 1) {
@@ -352,8 +354,8 @@ static void check_one_too_many(void) {
     char text[ROOM], more[ROOM];
     const rondavitse_lane lane = lane_of(MOST);
     wanted_handover(text, &lane);
-    const char *cars = strstr(text, "cars=64\n");
-    const int length = sprintf(more, "%.*scars=65\n%scar=1\nat=0\nspeed=0\nlength=0\nbrake=1\n", (int)(cars - text), text, cars + strlen("cars=64\n"));
+    const char *cars = strstr(text, "cars=64\n"), *carriers = cars + strlen("cars=64\n");
+    const int length = sprintf(more, "%.*scars=65\n%scar=1\nat=0\nspeed=0\nlength=0\nbrake=1\n", (int)(cars - text), text, carriers);
     same("one too many", "no", check_text(more, (size_t)length), RONDAVITSE_HANDOVER_MALFORMED);
 }
 
