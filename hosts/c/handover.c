@@ -407,6 +407,21 @@ static void check_edges(void) {
     }
 }
 
+/* A tail right before the end, at it and past it, wherever the front is. */
+static void check_tails(uint64_t end) {
+    const uint64_t lengths[] = {0, 1, 300, RONDAVITSE_LONGEST_CARRIER};
+    for (size_t i = 0; i < sizeof lengths / sizeof lengths[0]; i++) {
+        rondavitse_lane lane = started_lane(0, end);
+        lane.count = 1;
+        put_carrier(&lane.records[0], (rondavitse_carrier){7, end - 1 + lengths[i], 0, lengths[i], 1});
+        same("tail", "no before the end", check_lane(&lane), RONDAVITSE_ACCEPTED);
+        lane.records[0].position++;
+        same("tail", "no at the end", check_lane(&lane), RONDAVITSE_HANDOVER_MALFORMED);
+        lane.records[0].position = UINT32_MAX;
+        same("tail", "no past the end", check_lane(&lane), RONDAVITSE_HANDOVER_MALFORMED);
+    }
+}
+
 /* At each place one that is level with the tail ahead, level with the front ahead, in the place of the one ahead, or of its number. */
 static void check_places(void) {
     for (size_t place = 1; place < MOST; place++) {
@@ -432,6 +447,9 @@ int main(void) {
     check_one_too_many();
     check_tables();
     check_edges();
+    check_tails(1);
+    check_tails(1000);
+    check_tails(RONDAVITSE_FARTHEST_END);
     check_places();
     return verdict();
 }
