@@ -5,3 +5,4 @@ pub mod History
 pub mod Openings
 pub mod Beginnings
 pub mod Handovers
+pub mod Readings

@@ -18,12 +18,14 @@ use Rattle.history.specs.Begins.{Begins, from-empty, from-text}
 use Rattle.history.specs.History.{Event, callsIn, bookOn, laneAfter, Chain, chain-end, chain-next, Throughout, LoadedRowsServe, SurfaceChanges, NeverBroken}
 use Rattle.history.specs.Openings.{Openings}
 use Rattle.history.specs.Handovers.{textHanded, Handovers}
+use Rattle.history.specs.Readings.{Reading}
 use Rattle.history.proofs.History.{given-of, read-of, chain-history}
 use Rattle.history.proofs.Consequences.{chain-never-broken, chain-handed-on}
 use Rattle.history.proofs.Rows.{chain-loaded-rows-serve}
 use Rattle.history.proofs.Changes.{chain-surface-changes}
 use Rattle.history.proofs.Openings.{chain-openings}
 use Rattle.history.proofs.Handovers.{chain-handovers}
+use Rattle.history.proofs.Readings.{readings}
 use Rattle.console.specs.Blocks.{Parsed, parsed, malformed}
 use Rattle.console.specs.History.{blockRun, eventsOf, callsWith}
 use Rattle.console.proofs.Calls.{step-chain}
@@ -89,6 +91,10 @@ took-over {number = number} {l} t = subst (λ (u : List ℕ). TakesOver u number
 pub host-history-from-text : (text : List ℕ) (number : ℕ) (l : Words) → TookOver text number l → (xs : List HostCall) (es : List Event) (d : Words) → HostRan l xs es d
     → Throughout (begunFrom text) es
 host-history-from-text text number l t xs es d r = host-history l (begunFrom text) (from-text text number l (took-over t)) xs es d r
+
+-- every text has one number there, and an accepted one is that of the lane and of no other
+pub host-readings : (text : List ℕ) (number : ℕ) (l : Words) → TookOver text number l → Reading text number l
+host-readings text number l t = readings text number l (took-over t)
 
 -- rows that `rondavitse_load` brought are in force from the next accepted start to the one after it
 pub host-loaded-rows-serve : (l : Words) (xs : List HostCall) (es : List Event) (d : Words) → HostRan l xs es d → LoadedRowsServe es

@@ -179,6 +179,10 @@ written-again text z =
     by-accepted text z λ s f same b lane.
     (ap handoverText lane ∙ sym same, subst Kept (sym lane) (record { unbroken = b; counted = f .counted }))
 
+-- its lines hold the lane that it is taken for
+pub accepted-form : (text : List ℕ) → takeOverNo text ≡ 0 → InForm (takenOver text)
+accepted-form text z = by-accepted text z λ s f same b lane. subst InForm (sym lane) f
+
 -- what a reading leaves: a lane that breaks no rule; and "a refused reading gives an empty lane, never started, with the house rows"
 pub taken-lane : (text : List ℕ) (number : ℕ) (l : Words) → TakesOver text number l
     → (number ≡ 0 → Kept (stateOf l)) × (¬ (number ≡ 0) → l ≡ emptyWords)
