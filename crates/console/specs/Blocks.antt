@@ -16,6 +16,7 @@ use Rattle.wish.specs.declared.Wish.{Wish}
 use Rattle.wish.specs.declared.Wish.the-variants.{Units, Acceleration, TargetSpeed, Hold}
 use Rattle.lane.specs.Limits.{mostCarriers, longestText}
 use Rattle.lane.specs.Listing.{carKey, carMost, atKey, atMost, speedKey, speedMost, lengthKey, lengthMost, brakeKey, brakeMost}
+use Rattle.lane.specs.Handover.{surfaceKey, endKey, limitKey, cycleKey}
 use Rattle.lane.specs.Call.{Call, start-call, enter-call, leave-call, surface-call, cycle-call, text-call}
 use Rattle.console.specs.declared.blocks.Kind.{Kind}
 use Rattle.console.specs.declared.blocks.Kind.the-variants.{Start, Enter, Leave, Cycle, Show, Surface, Unknown}
@@ -45,18 +46,11 @@ unfoldable pub field : (key : List ℕ) (most : ℕ) → List ℕ → (ℕ → L
 field key most t next =
     cond (isNumber (fieldIn key most t)) (afterLine t (next (valueIn (fieldIn key most t)))) malformed
 
--- ".., end, .., limit, surface: 32 bits; ..; the start's cycle: 64": the most that each holds
-abbrev pub bits32 : ℕ
-bits32 = 4294967295
-
-abbrev pub bits64 : ℕ
-bits64 = 18446744073709551615
-
--- "`call=start`, `surface`, `end`, `limit`, `cycle`"
+-- "`call=start`, `surface`, `end`, `limit`, `cycle`": the road's lines, as in a handover text
 unfoldable pub startLines : List ℕ → Parsed
 startLines t =
-    field (ascii "surface=") bits32 t (λ surface t. field (ascii "end=") bits32 t (λ end t. field (ascii "limit=") bits32 t (λ limit t.
-    field (ascii "cycle=") bits64 t (λ first t. parsed (start-call (record { surface = surface; end = end; limit = limit }) first) 0))))
+    field (surfaceKey .name) (surfaceKey .most) t (λ surface t. field (endKey .name) (endKey .most) t (λ end t. field (limitKey .name) (limitKey .most) t (λ limit t.
+    field (cycleKey .name) (cycleKey .most) t (λ first t. parsed (start-call (record { surface = surface; end = end; limit = limit }) first) 0))))
 
 -- "`call=enter`, `car`, `at`, `speed`"; document 02, T-03: "a line `length=` (32 bits) after `speed`"; T-06: "a line `brake=`
 -- (32 bits) after `length`": a carrier's lines, as in the lane text
@@ -72,7 +66,7 @@ leaveLines t = field carKey carMost t (λ car t. parsed (leave-call car) 0)
 
 -- document 02, T-05: "by `call=surface` and `surface`", the line of a start
 unfoldable pub surfaceLines : List ℕ → Parsed
-surfaceLines t = field (ascii "surface=") bits32 t (λ surface t. parsed (surface-call surface) 0)
+surfaceLines t = field (surfaceKey .name) (surfaceKey .most) t (λ surface t. parsed (surface-call surface) 0)
 
 -- ---- "lines `want=`"
 

@@ -33,10 +33,10 @@ fn start_block(l: &mut Lane, input: &[u8], at: usize, first: usize, out: &mut [u
     requires { ⌜ Begun (now input) at first (now out) ⌝ }
     ensures { λ r. ⌜ RunGives (now (l .entry)) (afterLine (drop at (now (input .entry))) startLines) at (now (out .entry)) r (now (l .exit)) (now (out .exit)) ⌝ }
 {
-    let surface = text::read_field(input, first, b"surface=", BITS32);
-    let end = text::read_field(input, surface.next, b"end=", BITS32);
-    let limit = text::read_field(input, end.next, b"limit=", BITS32);
-    let cycle = text::read_field(input, limit.next, b"cycle=", BITS64);
+    let surface = text::read_field(input, first, &lane::SURFACE, BITS32);
+    let end = text::read_field(input, surface.next, &lane::END, BITS32);
+    let limit = text::read_field(input, end.next, &lane::LIMIT, BITS32);
+    let cycle = text::read_field(input, limit.next, &lane::CYCLE, BITS64);
     if !(surface.ok & end.ok & limit.ok & cycle.ok) {
         return refused(at, 8, true, out);
     }
@@ -85,7 +85,7 @@ fn surface_block(l: &mut Lane, input: &[u8], at: usize, first: usize, out: &mut 
     requires { ⌜ Begun (now input) at first (now out) ⌝ }
     ensures { λ r. ⌜ RunGives (now (l .entry)) (afterLine (drop at (now (input .entry))) surfaceLines) at (now (out .entry)) r (now (l .exit)) (now (out .exit)) ⌝ }
 {
-    let surface = text::read_field(input, first, b"surface=", BITS32);
+    let surface = text::read_field(input, first, &lane::SURFACE, BITS32);
     if !surface.ok {
         return refused(at, 8, true, out);
     }

@@ -19,13 +19,20 @@ use Rattle.lane.specs.Listing.{laneText, laneTextIn, writtenNo, atStart}
 -- ---- writing
 
 -- "`surface`, `end`, `limit`, `cycle`": the lines of document 01's block `start`, "end, .., limit, surface: 32 bits; ..; the start's cycle: 64"
+abbrev pub surfaceKey : Key
+surfaceKey = record { name = ascii "surface="; most = 4294967295 }
+
+abbrev pub endKey : Key
+endKey = record { name = ascii "end="; most = 4294967295 }
+
+abbrev pub limitKey : Key
+limitKey = record { name = ascii "limit="; most = 4294967295 }
+
+abbrev pub cycleKey : Key
+cycleKey = record { name = ascii "cycle="; most = 18446744073709551615 }
+
 abbrev pub roadKeys : List Key
-roadKeys =
-    record { name = ascii "surface="; most = 4294967295 }
-    ∷ record { name = ascii "end="; most = 4294967295 }
-    ∷ record { name = ascii "limit="; most = 4294967295 }
-    ∷ record { name = ascii "cycle="; most = 18446744073709551615 }
-    ∷ []
+roadKeys = surfaceKey ∷ endKey ∷ limitKey ∷ cycleKey ∷ []
 
 abbrev pub roadNumbers : State → List ℕ
 roadNumbers s = s .road .surface ∷ s .road .end ∷ s .road .limit ∷ s .cycle ∷ []

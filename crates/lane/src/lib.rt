@@ -68,6 +68,15 @@ pub const LENGTH: [u8; 7] = *b"length=";
 
 pub const BRAKE: [u8; 6] = *b"brake=";
 
+// The keys of the road's lines, and of the cycle number's.
+pub const SURFACE: [u8; 8] = *b"surface=";
+
+pub const END: [u8; 4] = *b"end=";
+
+pub const LIMIT: [u8; 6] = *b"limit=";
+
+pub const CYCLE: [u8; 6] = *b"cycle=";
+
 // A lane's words, in rows; `layout` says which is where.
 pub const ROWS: usize = 89;
 

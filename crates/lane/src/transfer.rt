@@ -8,22 +8,17 @@ ghost use Rattle.text.specs.Groups.{Got, got, missing, groupText, groupIn};
 ghost use Rattle.text.specs.Lines.{written};
 ghost use Rattle.lane.specs.Layout.{stateOf};
 ghost use Rattle.lane.specs.Handover.{roadKeys, handoverText, handoverIn};
+use crate::CYCLE;
+use crate::END;
+use crate::LIMIT;
 use crate::Lane;
 use crate::MOST_CARRIERS;
 use crate::Road;
+use crate::SURFACE;
 use crate::SURFACES;
 use crate::layout;
 use crate::listing;
 use crate::table;
-
-// The keys of the road's lines and of the cycle number's.
-const SURFACE: [u8; 8] = *b"surface=";
-
-const END: [u8; 4] = *b"end=";
-
-const LIMIT: [u8; 6] = *b"limit=";
-
-const CYCLE: [u8; 6] = *b"cycle=";
 
 // How long the lines of the road and of the cycle number are.
 fn road_length(road: Road, cycle: u64) -> usize

@@ -5,9 +5,9 @@ use mathlib.Core.List.{List}
 use Prim.Native.Nat.{ℕ}
 use borrow.Author.Tests.{not-true, not-false}
 use lib.ListN.{drop}
-use Rattle.text.specs.Ascii.{ascii}
+use Rattle.lane.specs.Handover.{surfaceKey, endKey, limitKey, cycleKey}
 use Rattle.lane.specs.Call.{start-call}
-use Rattle.console.specs.Blocks.{Parsed, parsed, afterLine, field, bits32, bits64, startLines}
+use Rattle.console.specs.Blocks.{Parsed, parsed, afterLine, field, startLines}
 use Rattle.console.proofs.Lines.{Reached, first-read, field-read, all-read, refuses-8}
 use Rattle.console.proofs.blocks.start_block.Statement.{statement}
 use Rattle.console.proofs.blocks.start_block.Tie as tie
@@ -29,13 +29,13 @@ abbrev cycle-on : ℕ → ℕ → ℕ → ℕ → List ℕ → Parsed
 cycle-on surface end limit cycle t = parsed (start-call (record { surface = surface; end = end; limit = limit }) cycle) 0
 
 abbrev limit-on : ℕ → ℕ → ℕ → List ℕ → Parsed
-limit-on surface end limit t = field (ascii "cycle=") bits64 t (cycle-on surface end limit)
+limit-on surface end limit t = field (cycleKey .name) (cycleKey .most) t (cycle-on surface end limit)
 
 abbrev end-on : ℕ → ℕ → List ℕ → Parsed
-end-on surface end t = field (ascii "limit=") bits32 t (limit-on surface end)
+end-on surface end t = field (limitKey .name) (limitKey .most) t (limit-on surface end)
 
 abbrev surface-on : ℕ → List ℕ → Parsed
-surface-on surface t = field (ascii "end=") bits32 t (end-on surface)
+surface-on surface t = field (endKey .name) (endKey .most) t (end-on surface)
 
 lines : (c : tie.After-read-field4) → let a = start c .args in let s = first (second (third c)) .read-field .result in
     let e = second (third c) .read-field2 .result in let m = third c .read-field3 .result in let n = c .read-field4 .result in
@@ -45,10 +45,10 @@ unfolding startLines
 lines c =
     let a = start c .args in
     let block = first-read (a .input .now) (a .at) startLines (start c .pre .after) in
-    let surface = field-read (ascii "surface=") bits32 surface-on (first (second (third c)) .read-field .ensures) block in
-    let end = field-read (ascii "end=") bits32 (end-on _) (second (third c) .read-field2 .ensures) surface in
-    let limit = field-read (ascii "limit=") bits32 (limit-on _ _) (third c .read-field3 .ensures) end in
-    field-read (ascii "cycle=") bits64 (cycle-on _ _ _) (c .read-field4 .ensures) limit
+    let surface = field-read (surfaceKey .name) (surfaceKey .most) surface-on (first (second (third c)) .read-field .ensures) block in
+    let end = field-read (endKey .name) (endKey .most) (end-on _) (second (third c) .read-field2 .ensures) surface in
+    let limit = field-read (limitKey .name) (limitKey .most) (limit-on _ _) (third c .read-field3 .ensures) end in
+    field-read (cycleKey .name) (cycleKey .most) (cycle-on _ _ _) (c .read-field4 .ensures) limit
 
 slice-aggregate-read-field : tie.Need-slice-aggregate-read-field
 slice-aggregate-read-field c = search needs

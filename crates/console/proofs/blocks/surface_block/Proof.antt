@@ -4,9 +4,9 @@ use mathlib.Core.List.{List}
 use Prim.Native.Nat.{ℕ}
 use borrow.Author.Tests.{not-true, not-false}
 use lib.ListN.{drop}
-use Rattle.text.specs.Ascii.{ascii}
+use Rattle.lane.specs.Handover.{surfaceKey}
 use Rattle.lane.specs.Call.{surface-call}
-use Rattle.console.specs.Blocks.{Parsed, parsed, afterLine, bits32, surfaceLines}
+use Rattle.console.specs.Blocks.{Parsed, parsed, afterLine, surfaceLines}
 use Rattle.console.proofs.Lines.{Reached, first-read, field-read, all-read, refuses-8}
 use Rattle.console.proofs.blocks.surface_block.Statement.{statement}
 use Rattle.console.proofs.blocks.surface_block.Tie as tie
@@ -23,7 +23,7 @@ lines : (c : tie.After-read-field) → let a = start c .args in
 unfolding surfaceLines
 lines c =
     let a = start c .args in
-    field-read (ascii "surface=") bits32 surface-on (c .read-field .ensures) (first-read (a .input .now) (a .at) surfaceLines (start c .pre .after))
+    field-read (surfaceKey .name) (surfaceKey .most) surface-on (c .read-field .ensures) (first-read (a .input .now) (a .at) surfaceLines (start c .pre .after))
 
 slice-aggregate-read-field : tie.Need-slice-aggregate-read-field
 slice-aggregate-read-field c = search needs
