@@ -258,7 +258,7 @@ started-for-good l d before e between f after r road first is-start accepted =
 -- ---- of a lane that is handed on
 
 -- once a text is taken over no call gives 21
-chain-taken-for-good : {l d : Words} {es : List Event} (text : List ℕ) → TakesOver text 0 l → Chain l es d → NeverBroken true es
+pub chain-taken-for-good : {l d : Words} {es : List Event} (text : List ℕ) → TakesOver text 0 l → Chain l es d → NeverBroken true es
 chain-taken-for-good {l} text g c = chain-kept-never-broken (taken-lane text 0 l g .0 refl) c
 
 pub taken-for-good : (text : List ℕ) (l : Words) → TakesOver text 0 l → (es : List Event) (d : Words) → Ran l es d → NeverBroken true es
@@ -273,7 +273,7 @@ module _ {l d : Words} {b : Book} {es : List Event} (how : Begins l b) (c : Chai
       → (number ≡ 0) × (stateOf m ≡ stateOf (laneAfter l before)) × Throughout (bookOn b before) fs × NeverBroken true fs
   chain-handed-on number m g {fs} {f} q =
       let text = textHanded hand in
-      let told = chain-handovers how c .1 before hand later buffer is is-hand accepted h in
+      let told = chain-handovers how c .3 before hand later buffer is is-hand accepted h in
       let zero = g .number-is ∙ told .0 in (
         zero,
         g .state ∙ told .1,

@@ -8,13 +8,13 @@ use borrow.Author.Tests.{lt-ltb, le-ltb}
 use lib.Dec.{ltb}
 use lib.ListN.{length, take, drop}
 use lib.Seq.{take-at}
-use Rattle.lane.specs.Limits.{lastCycle}
+use Rattle.lane.specs.Limits.{lastCycle, longestHandover}
 use Rattle.lane.specs.State.{State}
 use Rattle.lane.specs.Layout.{Words, stateOf}
 use Rattle.lane.specs.Rules.{broken}
 use Rattle.lane.specs.Handover.{handoverText, takeOverNo, takenOver}
 use Rattle.lane.specs.Call.{handover-call, Answer, callNo, callAnswer}
-use Rattle.lane.proofs.HandoverLaws.{handover-in-order, handover-answers, handover-refused, read-back}
+use Rattle.lane.proofs.HandoverLaws.{handover-in-order, handover-answers, handover-refused, handover-most, read-back}
 use Rattle.history.specs.Book.{Book}
 use Rattle.history.specs.Begins.{Begins}
 use Rattle.history.specs.History.{Event, laneAfter, Ran, Chain}
@@ -51,6 +51,16 @@ module _ (s : State) (buffer : List ℕ) where
         λ fits. rw (handover-answers s buffer (number-when e (le-ltb (length buffer) (length text) fits))) (refl, refl, refl),
       )
 
+  refused-so : ¬ (callNo (handover-call buffer) s ≡ 0) → let a = callAnswer (handover-call buffer) s in (a .long ≡ 0) × (a .bytes ≡ buffer)
+  refused-so h = rw (handover-refused s buffer h) (refl, refl)
+
+  not-9 : (broken s ≡ false → length text ≤ length buffer) → ¬ (callNo (handover-call buffer) s ≡ 9)
+  not-9 fits z = by-rules (broken s) refl
+    where
+      by-rules : (t : Bool) → broken s ≡ t → ⊥
+      by-rules true e = omega (arith, number-when e refl, z)
+      by-rules false e = omega (arith, number-when e (le-ltb (length buffer) (length text) (fits e)), z)
+
   module _ (z : callNo (handover-call buffer) s ≡ 0) where
     accepted-unbroken : broken s ≡ false
     accepted-unbroken = by-rules (broken s) refl
@@ -75,6 +85,16 @@ module _ {l d : Words} {es : List Event} (c : Chain l es d) (before : List Event
       let number = number-at c before hand later is (handover-call buffer) is-hand in
       subst (Says at-hand buffer) (sym (answer-at c before hand later is (handover-call buffer) is-hand)) (says at-hand buffer (λ z. passes (number ∙ z)))
 
+  refused : ¬ (hand .answer .number ≡ 0) → (hand .answer .long ≡ 0) × (hand .answer .bytes ≡ buffer)
+  refused h =
+      rw (answer-at c before hand later is (handover-call buffer) is-hand)
+      (refused-so at-hand buffer (λ z. h (number-at c before hand later is (handover-call buffer) is-hand ∙ z)))
+
+  fits : at-hand .cycle ≤ lastCycle → longestHandover ≤ length buffer → ¬ (hand .answer .number ≡ 9)
+  fits h long z =
+      not-9 at-hand buffer (λ e. omega (arith, handover-most (laneAfter l before) e h))
+      (sym (number-at c before hand later is (handover-call buffer) is-hand) ∙ z)
+
   module _ (accepted : hand .answer .number ≡ 0) where
     number-zero : callNo (handover-call buffer) at-hand ≡ 0
     number-zero = sym (number-at c before hand later is (handover-call buffer) is-hand) ∙ accepted
@@ -96,7 +116,12 @@ module _ {l d : Words} {b : Book} {es : List Event} (how : Begins l b) (c : Chai
       (back .0, back .1, ap bookOf (back .1) ∙ agree .same)
 
   pub chain-handovers : Handovers l b es
-  chain-handovers = (λ before hand later buffer is is-hand. answered c before hand later is buffer is-hand, chain-taken)
+  chain-handovers = (
+    λ before hand later buffer is is-hand. answered c before hand later is buffer is-hand,
+    λ before hand later buffer is is-hand. refused c before hand later is buffer is-hand,
+    λ before hand later buffer is is-hand. fits c before hand later is buffer is-hand,
+    chain-taken,
+  )
 
 -- in every list of calls, however it begins
 pub handovers : (l : Words) (b : Book) → Begins l b → (es : List Event) (d : Words) → Ran l es d → Handovers l b es

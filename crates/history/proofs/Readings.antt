@@ -9,9 +9,10 @@ use Rattle.lane.specs.State.{State}
 use Rattle.lane.specs.Layout.{Words, stateOf}
 use Rattle.lane.specs.Rules.{laneNo}
 use Rattle.lane.specs.Handover.{handoverText, takeOverNo, TakesOver}
-use Rattle.lane.proofs.HandoverLaws.{InForm, accepted-form, written-again, taken-lane, one-or-none, one-lane, one-text, handover-lines, row-lines, handover-most}
-use Rattle.lane.proofs.HandoverNumbers.{carrier-36, twice-36, road-36, unsafe-37, lane-numbers}
-use Rattle.history.specs.Readings.{TextOf, NumberOf, Reading}
+use Rattle.lane.proofs.Laws.{carrier-lines}
+use Rattle.lane.proofs.HandoverLaws.{InForm, accepted-form, written-again, taken-lane, one-or-none, one-lane, one-text, handover-lines, row-lines, row-by-row, lane-lines, front-to-back, handover-most}
+use Rattle.lane.proofs.HandoverNumbers.{carrier-36, twice-36, road-36, nothing-else-36, unsafe-37, lane-numbers}
+use Rattle.history.specs.Readings.{TextOf, NumberOf, Reading, Spelt}
 
 number-of : (s : State) → NumberOf s (laneNo s)
 number-of s =
@@ -21,6 +22,7 @@ number-of s =
       road = road-36 s;
       carrier = carrier-36 s;
       twice = twice-36 s;
+      nothing-else = nothing-else-36 s;
       unsafe = unsafe-37 s;
     }
 
@@ -55,5 +57,7 @@ module _ (text : List ℕ) (number : ℕ) (l : Words) (g : TakesOver text number
         accepted = λ z. (text-is z ∙ handover-lines (stateOf l), rw (ap length (text-is z)) (longest z));
         one-text = λ z other m h same. one-text other text (sym (h .number-is)) (zero z) (sym (h .state) ∙ same ∙ g .state);
         refused = taken-lane text number l g .1;
-        rows = row-lines;
       }
+
+pub spelt : Spelt
+spelt = record { row-lines = row-lines; row-by-row = row-by-row; lane-lines = lane-lines; front-to-back = front-to-back; carrier-lines = carrier-lines }

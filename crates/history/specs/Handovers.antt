@@ -3,7 +3,7 @@ use Prim.Native.Nat.{ℕ, _≤_, _<_}
 use mathlib.Core.Path.{_≡_}
 use mathlib.Core.List.{List, _∷_, _++_}
 use lib.ListN.{length, take, drop}
-use Rattle.lane.specs.Limits.{lastCycle}
+use Rattle.lane.specs.Limits.{lastCycle, longestHandover}
 use Rattle.lane.specs.Layout.{Words, stateOf}
 use Rattle.lane.specs.Handover.{handoverText, takeOverNo, takenOver}
 use Rattle.lane.specs.Call.{handover-call}
@@ -22,6 +22,22 @@ HandoversAnswered l es =
     × (length text ≤ length buffer
     → (hand .answer .number ≡ 0) × (hand .answer .long ≡ length text) × (hand .answer .bytes ≡ text ++ drop (length text) buffer))
 
+-- a refused handover answers no length and leaves the lent bytes
+abbrev pub HandoversRefused : List Event → Type 0
+HandoversRefused es =
+    (before : List Event) (hand : Event) (later : List Event) (buffer : List ℕ)
+    → es ≡ before ++ (hand ∷ later)
+    → hand .call ≡ handover-call buffer → ¬ (hand .answer .number ≡ 0)
+    → (hand .answer .long ≡ 0) × (hand .answer .bytes ≡ buffer)
+
+-- and a buffer of the longest text is never too short, with a cycle number that 64 bits hold
+abbrev pub HandoversFit : Words → List Event → Type 0
+HandoversFit l es =
+    (before : List Event) (hand : Event) (later : List Event) (buffer : List ℕ)
+    → es ≡ before ++ (hand ∷ later)
+    → hand .call ≡ handover-call buffer → stateOf (laneAfter l before) .cycle ≤ lastCycle → longestHandover ≤ length buffer
+    → ¬ (hand .answer .number ≡ 9)
+
 -- the text that a handover has written
 abbrev pub textHanded : Event → List ℕ
 textHanded hand = take (hand .answer .long) (hand .answer .bytes)
@@ -38,6 +54,6 @@ HandoversTaken l b es =
     × (takenOver (textHanded hand) ≡ stateOf (laneAfter l before))
     × (begunFrom (textHanded hand) ≡ bookOn b before)
 
--- both of a list
+-- all of a list
 abbrev pub Handovers : Words → Book → List Event → Type 0
-Handovers l b es = HandoversAnswered l es × HandoversTaken l b es
+Handovers l b es = HandoversAnswered l es × HandoversRefused es × HandoversFit l es × HandoversTaken l b es

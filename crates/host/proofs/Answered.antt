@@ -176,7 +176,7 @@ every-host-list l (x ∷ xs) =
     record { events = eventsMade x (d .answer) (d .after) ++ h .events; last = h .last; ran = call (d .answer) (d .did) (h .ran) }
 
 -- for every list of exported calls, however it begins, there is a history: its calls are those that the exported ones are, what is claimed holds
--- throughout, of changes of surface and of openings, and no call gives 21 after a start
+-- throughout, of changes of surface, openings and handovers, and no call gives 21 after a start
 pub every-host-list-claimed : (l : Words) (b : Book) → Begins l b → (xs : List HostCall)
     → (h : HostHistoryOf l xs) × (callsIn (h .events) ≡ allMade xs) × Throughout b (h .events) × SurfaceChanges l b (h .events) × Openings l b (h .events) × Handovers l b (h .events) × NeverBroken false (h .events)
 every-host-list-claimed l b how xs =

@@ -20,7 +20,7 @@ use Rattle.history.specs.Openings.{Openings}
 use Rattle.history.specs.Handovers.{textHanded, Handovers}
 use Rattle.history.specs.Readings.{Reading}
 use Rattle.history.proofs.History.{given-of, read-of, chain-history}
-use Rattle.history.proofs.Consequences.{chain-never-broken, chain-handed-on}
+use Rattle.history.proofs.Consequences.{chain-never-broken, chain-taken-for-good, chain-handed-on}
 use Rattle.history.proofs.Rows.{chain-loaded-rows-serve}
 use Rattle.history.proofs.Changes.{chain-surface-changes}
 use Rattle.history.proofs.Openings.{chain-openings}
@@ -95,6 +95,10 @@ host-history-from-text text number l t xs es d r = host-history l (begunFrom tex
 -- every text has one number there, and an accepted one is that of the lane and of no other
 pub host-readings : (text : List ℕ) (number : ℕ) (l : Words) → TookOver text number l → Reading text number l
 host-readings text number l t = readings text number l (took-over t)
+
+-- and once one is accepted no call gives 21
+pub host-taken-for-good : (text : List ℕ) (l : Words) → TookOver text 0 l → (xs : List HostCall) (es : List Event) (d : Words) → HostRan l xs es d → NeverBroken true es
+host-taken-for-good text l t xs es d r = chain-taken-for-good text (took-over t) (is-chain r)
 
 -- rows that `rondavitse_load` brought are in force from the next accepted start to the one after it
 pub host-loaded-rows-serve : (l : Words) (xs : List HostCall) (es : List Event) (d : Words) → HostRan l xs es d → LoadedRowsServe es

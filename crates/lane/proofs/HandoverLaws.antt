@@ -24,7 +24,7 @@ use Rattle.lane.specs.Layout.{Words, stateOf, emptyWords}
 use Rattle.lane.specs.Rules.{broken, laneNo}
 use Rattle.lane.specs.Table.{rowText, tableText, rowsIn}
 use Rattle.lane.specs.Calls.{none}
-use Rattle.lane.specs.Listing.{laneText, laneTextIn}
+use Rattle.lane.specs.Listing.{carrierText, carriersText, laneText, laneTextIn}
 use Rattle.lane.specs.Handover.{roadKeys, roadNumbers, roadText, handoverText, handed, handoverIn, takeOverNo, takenOver, TakesOver, handoverNo, handoverBytes}
 use Rattle.lane.specs.Call.{handover-call, bare, told, callNo, callAnswer, Kept}
 use Rattle.lane.proofs.checks.Surfaces.{SoundRow, sound-at}
@@ -241,6 +241,20 @@ pub row-lines : (r : Row) → rowText r
     ≡ line (ascii "b=") (decimal (r .guaranteed)) ++ (line (ascii "B=") (decimal (r .hardest)) ++ line (ascii "A=") (decimal (r .most)))
 unfolding rowText
 row-lines r = rw append-nil refl
+
+-- "row by row", code after code
+pub row-by-row : (r : Row) (rs : List Row) → (tableText [] ≡ []) × (tableText (r ∷ rs) ≡ rowText r ++ tableText rs)
+unfolding tableText
+row-by-row r rs = (refl, refl)
+
+-- the lane text: "what `show` prints from `cars=` on", the carriers "front to back"
+pub lane-lines : (s : State) → laneText s ≡ line (ascii "cars=") (decimal (s .count)) ++ carriersText (s .carriers)
+unfolding laneText
+lane-lines s = refl
+
+pub front-to-back : (c : Carrier) (cs : List Carrier) → (carriersText [] ≡ []) × (carriersText (c ∷ cs) ≡ carrierText c ++ carriersText cs)
+unfolding carriersText
+front-to-back c cs = (refl, refl)
 
 -- no text of a lane that breaks no rule is longer than the longest
 pub handover-most : (l : Words) → broken (stateOf l) ≡ false → stateOf l .cycle ≤ lastCycle → length (handoverText (stateOf l)) ≤ longestHandover

@@ -6,12 +6,13 @@ use mathlib.Core.List.{List, [], _∷_}
 use mathlib.Core.Logic.{_⊎_, inl, inr}
 use Prim.Native.Nat.{ℕ, zero, suc, _+_, _≤_, _<_, min}
 use native.Mathlib.Omega.{arith}
-use borrow.Author.Tests.{eqb-false}
+use borrow.Author.Tests.{eqb-false, ne-eqb, le-ltb, le-leb, lt-leb}
 use lib.ListN.{length, getD}
 use Rattle.headway.specs.Stopping.{stoppingDistance}
 use Rattle.lane.specs.declared.Carrier.{Carrier}
+use Rattle.lane.specs.declared.Road.{Road}
 use Rattle.lane.specs.declared.Row.{Row}
-use Rattle.lane.specs.Surface.{rowOf, rowIn}
+use Rattle.lane.specs.Surface.{rowOf, soundRow, unsoundBelow, unsound, rowIn}
 use Rattle.lane.specs.State.{State}
 use Rattle.lane.specs.Safety.{leader, safeWith, safeFrom, laneSafe, anyOf, numbered, repeats}
 use Rattle.lane.specs.Rules.{unlawful, pastEnd, misfit, unfounded, broken, carriersNo, laneNo}
@@ -19,7 +20,7 @@ use Rattle.lane.specs.Calls.{none}
 use Rattle.lane.proofs.EntryLaws.{numbers-safe, safe-numbers}
 use Rattle.lane.proofs.lists.Tests.{neither, none-at}
 use Rattle.lane.proofs.checks.Surfaces.{SoundRow, sound-at}
-use Rattle.lane.proofs.checks.Soundness.{Fit, fit-in, founded, lane-no-zero}
+use Rattle.lane.proofs.checks.Soundness.{SoundRoad, sound-road-holds, Fit, fit-lawful, fit-in, founded, lane-no-zero}
 use Rattle.lane.proofs.calls.Order.{safe-behind-leader}
 
 -- ---- carriers of which none is unlike the rules
@@ -52,6 +53,37 @@ unsafe-pair r (c ∷ cs) e = behind c cs e
             → (i : ℕ) × (suc i < length (a ∷ c ∷ cs)) × (safeWith r (leader (getD (a ∷ c ∷ cs) i none)) (getD (a ∷ c ∷ cs) (suc i) none) ≡ false)
         by-test true q more = let m = more (rw q at e) in (suc (m .0), omega (arith, m .1), m .2)
         by-test false q more = (0, omega arith, q)
+
+-- no carrier passes a test that each fails
+none-pass : (f : Carrier → Bool) (cs : List Carrier) → ((i : ℕ) → i < length cs → f (getD cs i none) ≡ false) → anyOf f cs ≡ false
+unfolding anyOf
+none-pass f [] h = refl
+none-pass f (c ∷ cs) h = rw (h 0 (omega arith), none-pass f cs (λ i p. h (suc i) (omega arith))) refl
+
+none-twice : (cs : List Carrier) → ((i j : ℕ) → i < j → j < length cs → ¬ (getD cs i none .number ≡ getD cs j none .number)) → repeats cs ≡ false
+unfolding repeats
+none-twice [] h = refl
+none-twice (c ∷ cs) h =
+    rw (
+      none-pass (numbered (c .number)) cs (λ i p. ne-eqb _ _ (λ e. h 0 (suc i) (omega arith) (omega arith) (sym e))),
+      none-twice cs (λ i j p q. h (suc i) (suc j) (omega arith) (omega arith)),
+    )
+    refl
+
+sound-below : (n : ℕ) (rows : List Row) → ((code : ℕ) → code < n → SoundRow (rowOf rows code)) → unsoundBelow n rows ≡ false
+unfolding unsoundBelow soundRow
+sound-below zero rows h = refl
+sound-below (suc n) rows h =
+    let r = h n (omega arith) in
+    rw (
+      sound-below n rows (λ code p. h code (omega arith)),
+      le-leb 1 _ (r .brakes),
+      le-leb _ _ (r .brakes-harder),
+      le-leb _ 255 (r .hardest-most),
+      le-leb 1 _ (r .gains),
+      le-leb _ 255 (r .gains-most),
+    )
+    refl
 
 -- ---- two tests, each of which gives 36
 
@@ -169,6 +201,46 @@ module _ (s : State) where
       by-number false true t e = absurd (omega arith)
       by-number false false true e = absurd (omega arith)
       by-number false false false e = refl
+
+  -- and 36 for nothing else: where every number is in its range and none stands twice the lane gets 0 or 37, safe or not
+  pub nothing-else-36 :
+      let Sound : Row → Type 0 = λ r. (1 ≤ r .guaranteed) × (r .guaranteed ≤ r .hardest) × (r .hardest ≤ 255) × (1 ≤ r .most) × (r .most ≤ 255) in
+      let Lawful : Carrier → Type 0 = λ c.
+      (1 ≤ c .number) × (c .number ≤ 65535) × (c .speed ≤ s .road .limit) × (c .length ≤ 65535) × (1 ≤ c .rate) × (c .rate ≤ 255) × (c .position < s .road .end + c .length)
+      in
+      s .started ≡ true → s .road .surface ≤ 7 → 1 ≤ s .road .end → s .road .end ≤ 2147483648 → 1 ≤ s .road .limit → s .road .limit ≤ 8192
+      → ((code : ℕ) → code < 8 → Sound (rowOf (s .tables .inForce) code)) → ((code : ℕ) → code < 8 → Sound (rowOf (s .tables .next) code))
+      → s .count ≤ 64 → ((i : ℕ) → i < length (s .carriers) → Lawful (getD (s .carriers) i none))
+      → ((i j : ℕ) → i < j → j < length (s .carriers) → ¬ (getD (s .carriers) i none .number ≡ getD (s .carriers) j none .number))
+      → ¬ (laneNo s ≡ 36)
+  unfolding laneNo carriersNo unsound
+  nothing-else-36 started surface end-least end-most limit-least limit-most inForce next count lawful alone e =
+      let road : SoundRoad (s .road) = record { surface = surface; end-least = end-least; end-most = end-most; limit-least = limit-least; limit-most = limit-most } in
+      let carriers = none-pass (λ c. unlawful (s .road) c || pastEnd (s .road) c) (s .carriers) (λ i p. fits (getD (s .carriers) i none) (lawful i p)) in
+      by-safe safe
+      (sym (rw (
+        started,
+        sound-road-holds (s .road) road,
+        sound-below 8 (s .tables .inForce) (λ code p. known (inForce code p)),
+        sound-below 8 (s .tables .next) (λ code p. known (next code p)),
+        le-ltb 64 (s .count) count,
+        carriers,
+        none-twice (s .carriers) alone,
+      ) refl) ∙ e)
+    where
+      fits : (c : Carrier)
+          → (1 ≤ c .number) × (c .number ≤ 65535) × (c .speed ≤ s .road .limit) × (c .length ≤ 65535) × (1 ≤ c .rate) × (c .rate ≤ 255) × (c .position < s .road .end + c .length)
+          → unlawful (s .road) c || pastEnd (s .road) c ≡ false
+      fits c h =
+          let f = fit-lawful (s .road) c (record { number-least = h .0; number-most = h .1; slow = h .2; short = h .3; rate-least = h .4; rate-most = h .5; before-end = h .6 }) in
+          rw (f .0, f .1) refl
+
+      known : {r : Row} → ((1 ≤ r .guaranteed) × (r .guaranteed ≤ r .hardest) × (r .hardest ≤ 255) × (1 ≤ r .most) × (r .most ≤ 255)) → SoundRow r
+      known h = record { brakes = h .0; brakes-harder = h .1; hardest-most = h .2; gains = h .3; gains-most = h .4 }
+
+      by-safe : (t : Bool) → _≡_ {A = ℕ} (cond t 0 37) 36 → ⊥
+      by-safe true q = omega arith
+      by-safe false q = omega arith
 
   -- ---- a lane is accepted where 21 passes it, and turned away by 36 or 37 where it doesn't
   pub lane-numbers : ((laneNo s ≡ 0) ⊎ (laneNo s ≡ 36) ⊎ (laneNo s ≡ 37)) × (laneNo s ≡ 0 → broken s ≡ false) × (broken s ≡ false → laneNo s ≡ 0)

@@ -54,9 +54,6 @@ pub const LAST_CYCLE: u64 = 18446744073709551615;
 // The longest lane text.
 pub const LONGEST_TEXT: usize = 3720;
 
-// The longest handover text.
-pub const LONGEST_HANDOVER: usize = 4071;
-
 // The keys of a carrier's lines.
 pub const CAR: [u8; 4] = *b"car=";
 

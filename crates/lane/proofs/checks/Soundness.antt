@@ -105,10 +105,10 @@ fit road c e p =
 pub rated-at : (road : Road) (cs : List Carrier) → anyOf (unlawful road) cs ≡ false → (i : ℕ) → i < length cs → 1 ≤ getD cs i none .rate
 rated-at road cs e i h = within 1 255 _ (lawful-in road (getD cs i none) (none-at (unlawful road) cs i none e h) .3) .0
 
--- a newcomer that passes its own checks: where its front is before the end, its tail is
-pub newcomer-lawful : (road : Road) (c : Carrier) → Newcomer road c → unlawful road c ≡ false
-unfolding unlawful
-newcomer-lawful road c h =
+-- and such a one is lawful, with its tail before the end
+pub fit-lawful : (road : Road) (c : Carrier) → Fit road c → (unlawful road c ≡ false) × (pastEnd road c ≡ false)
+unfolding unlawful pastEnd
+fit-lawful road c h =
     rw (
       le-ltb (c .number) 1 (h .number-least),
       le-ltb 65535 (c .number) (h .number-most),
@@ -116,16 +116,13 @@ newcomer-lawful road c h =
       le-ltb 65535 (c .length) (h .short),
       le-ltb (c .rate) 1 (h .rate-least),
       le-ltb 255 (c .rate) (h .rate-most),
+      lt-leb (road .end + c .length) (c .position) (h .before-end),
     )
-    refl
+    (refl, refl)
 
-pub newcomer-before-end : (road : Road) (c : Carrier) → Newcomer road c → pastEnd road c ≡ false
-unfolding pastEnd
-newcomer-before-end road c h = lt-leb (road .end + c .length) (c .position) (omega (arith, h .front-before-end))
-
-pub newcomer-fit : (road : Road) (c : Carrier) → newcomerNo road c ≡ 0 → Fit road c
-newcomer-fit road c e =
-    let h = newcomer-is road c e in
+-- a newcomer that passes its own checks: where its front is before the end, its tail is
+newcomer-is-fit : (road : Road) (c : Carrier) → Newcomer road c → Fit road c
+newcomer-is-fit road c h =
     record {
       number-least = h .number-least;
       number-most = h .number-most;
@@ -135,6 +132,15 @@ newcomer-fit road c e =
       rate-most = h .rate-most;
       before-end = omega (arith, h .front-before-end);
     }
+
+pub newcomer-fit : (road : Road) (c : Carrier) → newcomerNo road c ≡ 0 → Fit road c
+newcomer-fit road c e = newcomer-is-fit road c (newcomer-is road c e)
+
+pub newcomer-lawful : (road : Road) (c : Carrier) → Newcomer road c → unlawful road c ≡ false
+newcomer-lawful road c h = fit-lawful road c (newcomer-is-fit road c h) .0
+
+pub newcomer-before-end : (road : Road) (c : Carrier) → Newcomer road c → pastEnd road c ≡ false
+newcomer-before-end road c h = fit-lawful road c (newcomer-is-fit road c h) .1
 
 -- its numbers are 32 bits wide, its position even with a length added, and its speed within every limit
 pub record Narrow (c : Carrier) : Type 0 where
