@@ -19,7 +19,7 @@ use Rattle.lane.specs.Rules.{newcomerNo, broken}
 use Rattle.lane.specs.Calls.{none, aheadOf, walk, gapNo, placeNo, enterNo}
 use Rattle.lane.specs.Call.{enter-call, callNo}
 use Rattle.lane.proofs.Newcomers.{Newcomer, newcomer-passes}
-use Rattle.lane.proofs.lists.Tests.{none-at}
+use Rattle.lane.proofs.lists.Tests.{none-at, none-pass}
 
 -- ---- where the walk ends
 pub walk-ends : (position : ℕ) (cs : List Carrier) (place : ℕ) → place ≤ length cs → ((i : ℕ) → i < place → position ≤ getD cs i none .position)
@@ -32,9 +32,7 @@ walk-ends position (c ∷ cs) (suc place) h before at =
 
 -- a number that no carrier has
 absent : (number : ℕ) (cs : List Carrier) → ((i : ℕ) → i < length cs → ¬ (getD cs i none .number ≡ number)) → anyOf (numbered number) cs ≡ false
-unfolding anyOf
-absent number [] h = refl
-absent number (c ∷ cs) h = rw (ne-eqb (c .number) number (h 0 (omega arith))) (absent number cs (λ i p. h (suc i) (omega arith)))
+absent number cs h = none-pass (numbered number) cs none (λ i p. ne-eqb _ number (h i p))
 
 -- and one that some carrier has
 present : (number : ℕ) (cs : List Carrier) (i : ℕ) → i < length cs → getD cs i none .number ≡ number → anyOf (numbered number) cs ≡ true

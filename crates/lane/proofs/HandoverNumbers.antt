@@ -18,7 +18,7 @@ use Rattle.lane.specs.Safety.{leader, safeWith, safeFrom, laneSafe, anyO
 use Rattle.lane.specs.Rules.{unlawful, pastEnd, misfit, unfounded, broken, carriersNo, laneNo}
 use Rattle.lane.specs.Calls.{none}
 use Rattle.lane.proofs.EntryLaws.{numbers-safe, safe-numbers}
-use Rattle.lane.proofs.lists.Tests.{neither, none-at}
+use Rattle.lane.proofs.lists.Tests.{neither, none-at, none-pass}
 use Rattle.lane.proofs.checks.Surfaces.{SoundRow, sound-at}
 use Rattle.lane.proofs.checks.Soundness.{SoundRoad, sound-road-holds, Fit, fit-lawful, fit-in, founded, lane-no-zero}
 use Rattle.lane.proofs.calls.Order.{safe-behind-leader}
@@ -54,18 +54,12 @@ unsafe-pair r (c ∷ cs) e = behind c cs e
         by-test true q more = let m = more (rw q at e) in (suc (m .0), omega (arith, m .1), m .2)
         by-test false q more = (0, omega arith, q)
 
--- no carrier passes a test that each fails
-none-pass : (f : Carrier → Bool) (cs : List Carrier) → ((i : ℕ) → i < length cs → f (getD cs i none) ≡ false) → anyOf f cs ≡ false
-unfolding anyOf
-none-pass f [] h = refl
-none-pass f (c ∷ cs) h = rw (h 0 (omega arith), none-pass f cs (λ i p. h (suc i) (omega arith))) refl
-
 none-twice : (cs : List Carrier) → ((i j : ℕ) → i < j → j < length cs → ¬ (getD cs i none .number ≡ getD cs j none .number)) → repeats cs ≡ false
 unfolding repeats
 none-twice [] h = refl
 none-twice (c ∷ cs) h =
     rw (
-      none-pass (numbered (c .number)) cs (λ i p. ne-eqb _ _ (λ e. h 0 (suc i) (omega arith) (omega arith) (sym e))),
+      none-pass (numbered (c .number)) cs none (λ i p. ne-eqb _ _ (λ e. h 0 (suc i) (omega arith) (omega arith) (sym e))),
       none-twice cs (λ i j p q. h (suc i) (suc j) (omega arith) (omega arith)),
     )
     refl
@@ -216,7 +210,7 @@ module _ (s : State) where
   unfolding laneNo carriersNo unsound
   nothing-else-36 started surface end-least end-most limit-least limit-most inForce next count lawful alone e =
       let road : SoundRoad (s .road) = record { surface = surface; end-least = end-least; end-most = end-most; limit-least = limit-least; limit-most = limit-most } in
-      let carriers = none-pass (λ c. unlawful (s .road) c || pastEnd (s .road) c) (s .carriers) (λ i p. fits (getD (s .carriers) i none) (lawful i p)) in
+      let carriers = none-pass (λ c. unlawful (s .road) c || pastEnd (s .road) c) (s .carriers) none (λ i p. fits (getD (s .carriers) i none) (lawful i p)) in
       by-safe safe
       (sym (rw (
         started,

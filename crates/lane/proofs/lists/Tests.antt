@@ -53,3 +53,9 @@ less-ltb x y m h = less-leb (suc x) y m h ∙ ap (λ (n : ℕ). leb n y) (next x
   where
     next : (x m : ℕ) → suc x + m ≡ suc (x + m)
     next x m = omega arith
+
+-- no carrier passes a test that each fails
+pub none-pass : (f : Carrier → Bool) (cs : List Carrier) (d : Carrier) → ((i : ℕ) → i < length cs → f (getD cs i d) ≡ false) → anyOf f cs ≡ false
+unfolding anyOf
+none-pass f [] d h = refl
+none-pass f (c ∷ cs) d h = rw (h 0 (omega arith), none-pass f cs d (λ i p. h (suc i) (omega arith))) refl
