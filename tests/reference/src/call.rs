@@ -5,7 +5,7 @@ use crate::lane::{Cycled, Gap, Opening, Reading, PLACES};
 use crate::road::Road;
 use crate::wish::Wish;
 
-/// A call on the lane.
+/// A call on the lane. Taking a lane over from a text is none: a history begins with it.
 #[derive(Clone, Debug, PartialEq, Eq)]
 pub enum Call {
     Start {
@@ -34,6 +34,10 @@ pub enum Call {
     LaneText {
         room: usize,
     },
+    /// The handover text into a buffer of `room` bytes.
+    Handover {
+        room: usize,
+    },
     /// Another surface code for the running lane.
     Surface {
         surface: u64,
@@ -56,6 +60,7 @@ pub enum Answer {
     /// Nothing where no position would be admitted.
     OpeningFound(Option<Opening>),
     LaneText(Vec<u8>),
+    HandoverText(Vec<u8>),
     SurfaceChanged,
     Loaded,
 }

@@ -2,6 +2,7 @@
 
 mod calls;
 mod entry;
+mod handover;
 mod listing;
 mod lookup;
 mod motion;
@@ -10,7 +11,7 @@ mod rules;
 
 pub use crate::carrier::Carrier;
 pub use calls::Supervisor;
-pub use listing::LONGEST_LANE_TEXT;
+pub use listing::{LONGEST_HANDOVER, LONGEST_LANE_TEXT};
 pub use lookup::Lookup;
 pub use opening::{Gap, Opening};
 pub use rules::NUMBERS;

@@ -87,8 +87,8 @@ fn answered(answer: Answer) -> Vec<u8> {
         .into_bytes(),
         Answer::LaneText(text) => [b"ok=show\n".as_slice(), &text].concat(),
         Answer::SurfaceChanged => b"ok=surface\n".to_vec(),
-        Answer::Read(_) | Answer::OpeningFound(_) | Answer::Loaded => {
-            unreachable!("no call text reads, asks or loads")
+        Answer::Read(_) | Answer::OpeningFound(_) | Answer::HandoverText(_) | Answer::Loaded => {
+            unreachable!("no call text reads, asks, hands over or loads")
         }
     }
 }

@@ -6,6 +6,8 @@ mod calls;
 mod edges;
 mod entries;
 mod gaps;
+mod handover_breaks;
+mod handovers;
 mod histories;
 mod lanes;
 mod lengths;
@@ -15,13 +17,16 @@ mod rates;
 mod surfaces;
 mod table_texts;
 mod tables;
+mod unsafe_lanes;
 mod wide;
 mod wishes;
 
 pub use breaks::{break_line, LineBreak, Part, TextBreak, LINE_BREAKS, TEXT_BREAKS};
 pub use calls::{call, Weights, CYCLES, EVEN, LOADS, OPENINGS, RAIN};
 pub use gaps::{gapped_lane, short_lane, SHORT_END};
-pub use histories::{calls_on, calls_on_empty, history, History};
+pub use handover_breaks::HANDOVER_BREAKS;
+pub use handovers::{handover_text, malformed_handover_text, text_to_read};
+pub use histories::{calls_on, calls_on_empty, history, taken_over, History, TakenOver};
 pub use lanes::{
     empty_lane, lane_for_change, lane_with, never_started_lane, sound_lane, unsound_lane,
 };
@@ -31,6 +36,7 @@ pub use programs::{
 };
 pub use table_texts::{malformed_table_text, table_text, TABLE_BREAKS};
 pub use tables::{sound_table, unsound_table};
+pub use unsafe_lanes::{lane_of_two_rows, unsafe_lane};
 pub use wide::widened;
 pub use wishes::FLOAT_EDGES;
 

@@ -35,6 +35,11 @@ pub enum Refusal {
     /// Of a change of surface: the lane would not be safe on the new one.
     SurfaceUnsafe = 34,
     OwnRateOutOfRange = 35,
+    /// Of a handover text: malformed, or of a lane that breaks a rule other than
+    /// that of safety.
+    HandoverFaulty = 36,
+    /// Of a handover text: its lane is not safe.
+    HandoverUnsafe = 37,
 }
 
 impl Refusal {

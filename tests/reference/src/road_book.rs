@@ -6,7 +6,7 @@
 mod checker;
 mod drive;
 
-pub use checker::{check_history, Checker};
+pub use checker::{check_history, check_taken_over, Checker};
 pub use drive::Drive;
 
 use crate::call::Call;
@@ -30,13 +30,24 @@ pub struct RoadBook {
 
 impl RoadBook {
     /// What a book holds that agrees with `lane`; a history's begins with that
-    /// of its first lane, which has no carriers.
+    /// of its first lane, which has no carriers, unless that comes from a reading.
     pub fn of(lane: &Lane) -> RoadBook {
         RoadBook {
             road: lane.road,
             tables: lane.tables,
             carriers: lane.present().to_vec(),
         }
+    }
+
+    /// What a history's book begins with after a reading: all that the text holds,
+    /// carriers included, or what the empty lane does. A reading of no handover text
+    /// that was not refused is a breach.
+    pub fn after_reading(text: &[u8], refused: bool) -> Result<RoadBook, Breach> {
+        if refused {
+            return Ok(RoadBook::of(&Lane::default()));
+        }
+        let lane = text::handover(text).map_err(|_| "no lane was taken over")?;
+        Ok(RoadBook::of(&lane))
     }
 
     /// Takes a call into the book. A cycle that ran although the book knows
@@ -64,7 +75,8 @@ impl RoadBook {
                 self.tables.for_next_start = table.map_err(|_| "no table was loaded")?;
             }
             Call::Surface { surface } => self.road.surface = surface,
-            Call::Read { .. } | Call::FindOpening { .. } | Call::LaneText { .. } => (),
+            Call::Read { .. } | Call::FindOpening { .. } => (),
+            Call::LaneText { .. } | Call::Handover { .. } => (),
         }
         Ok(())
     }

@@ -1,11 +1,11 @@
-//! Call texts and table texts: `key=value` lines in fixed order.
+//! Call texts, table texts and handover texts: `key=value` lines in fixed order.
 
 use crate::call::Call;
 use crate::carrier::Carrier;
-use crate::lane::{LONGEST_LANE_TEXT, PLACES};
+use crate::lane::{Lane, LONGEST_LANE_TEXT, PLACES};
 use crate::refusal::Refusal;
 use crate::road::Road;
-use crate::surface::{Row, Table, SURFACES};
+use crate::surface::{Row, Table, Tables, SURFACES};
 use crate::wish::Wish;
 
 /// The most bytes of a line, with its newline.
@@ -53,12 +53,31 @@ pub fn block(text: &[u8]) -> Result<(Call, &[u8]), Refusal> {
 /// Reads a table text: the rows in the order of their codes and nothing else.
 pub fn table(text: &[u8]) -> Result<Table, Refusal> {
     let mut lines = Lines { rest: text };
-    let mut rows = [Row::default(); SURFACES];
-    for row in &mut rows {
-        *row = lines.row()?;
+    let table = lines.table()?;
+    lines.end()?;
+    Ok(table)
+}
+
+/// Reads a handover text, that and nothing else: the lane as it stands there, which
+/// may break any rule.
+pub fn handover(text: &[u8]) -> Result<Lane, Refusal> {
+    let mut lines = Lines { rest: text };
+    let mut lane = Lane {
+        started: true,
+        tables: Tables {
+            in_force: lines.table()?,
+            for_next_start: lines.table()?,
+        },
+        road: lines.road()?,
+        cycle: lines.number::<u64>("cycle")?,
+        count: lines.cars()?,
+        ..Lane::default()
+    };
+    for carrier in lane.carriers.iter_mut().take(lane.count as usize) {
+        *carrier = lines.carrier()?;
     }
-    Refusal::TextMalformed.when(!lines.rest.is_empty())?;
-    Ok(Table(rows))
+    lines.end()?;
+    Ok(lane)
 }
 
 /// The lines still to be read.
@@ -106,9 +125,28 @@ impl<'a> Lines<'a> {
         })
     }
 
-    fn cycle(&mut self) -> Result<Call, Refusal> {
+    fn table(&mut self) -> Result<Table, Refusal> {
+        let mut rows = [Row::default(); SURFACES];
+        for row in &mut rows {
+            *row = self.row()?;
+        }
+        Ok(Table(rows))
+    }
+
+    /// How many carriers or wishes follow.
+    fn cars(&mut self) -> Result<u64, Refusal> {
         let count = self.number::<u64>("cars")?;
         Refusal::TextMalformed.when(count > PLACES as u64)?;
+        Ok(count)
+    }
+
+    /// Nothing may follow.
+    fn end(&self) -> Result<(), Refusal> {
+        Refusal::TextMalformed.when(!self.rest.is_empty())
+    }
+
+    fn cycle(&mut self) -> Result<Call, Refusal> {
+        let count = self.cars()?;
         let mut wishes = Box::new([Wish::Hold; PLACES]);
         for wanted in wishes.iter_mut().take(count as usize) {
             *wanted = wish(self.value("want")?).ok_or(Refusal::TextMalformed)?;

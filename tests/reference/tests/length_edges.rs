@@ -142,6 +142,8 @@ fn past_end_call(call: &Call, outcome: &Outcome) -> &'static str {
         (Call::FindOpening { .. }, Err(_)) => "front past the end: question refused",
         (Call::LaneText { .. }, Ok(_)) => "front past the end: lane text accepted",
         (Call::LaneText { .. }, Err(_)) => "front past the end: lane text refused",
+        (Call::Handover { .. }, Ok(_)) => "front past the end: handover accepted",
+        (Call::Handover { .. }, Err(_)) => "front past the end: handover refused",
         (Call::Surface { .. }, Ok(_)) => "front past the end: surface accepted",
         (Call::Surface { .. }, Err(_)) => "front past the end: surface refused",
         (Call::Load { .. }, _) => "front past the end: load",

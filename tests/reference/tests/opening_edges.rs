@@ -15,7 +15,7 @@ use lane_reference::{
 };
 
 /// Questions alone.
-const QUESTIONS: Weights = [0, 0, 0, 0, 0, 0, 0, 0, 0, 0, 0, 1];
+const QUESTIONS: Weights = [0, 0, 0, 0, 0, 0, 0, 0, 0, 0, 0, 1, 0];
 
 /// What histories and the entries in them have to meet more often than that.
 const IN_HISTORIES: [(&str, u32); 20] = [

@@ -8,7 +8,7 @@ use lane_reference::stopping::Fast;
 use lane_reference::{Answer, Call, Carrier, FastLane, Lane, Row, Supervisor, Table};
 
 /// Changes of surface alone.
-const CHANGES: Weights = [0, 0, 0, 0, 0, 0, 0, 0, 0, 1, 0, 0];
+const CHANGES: Weights = [0, 0, 0, 0, 0, 0, 0, 0, 0, 1, 0, 0, 0];
 
 /// How far each pair, front to back, is from being level, now or at rest,
 /// whichever is less: it is safe from 1 on.

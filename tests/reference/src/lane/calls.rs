@@ -1,7 +1,7 @@
 //! The calls on a lane, each with its checks in the paper's order.
 
 use super::entry::{check_values, fit};
-use super::listing::{lane_text, LONGEST_LANE_TEXT};
+use super::listing::{handover_text, lane_text, put, LONGEST_HANDOVER, LONGEST_LANE_TEXT};
 use super::motion::drive;
 use super::opening::{opening, Gap, Opening};
 use super::{Cycled, Lane, Reading, NUMBERS, PLACES};
@@ -123,15 +123,25 @@ pub trait Supervisor {
     /// Writes the lane text into `buffer` and gives its length; the bytes
     /// after the text keep what they held.
     fn lane_text(&self, buffer: &mut [u8]) -> Result<usize, Refusal> {
-        self.lane().sound_row::<Self::Stopping>()?;
-        if buffer.len() >= LONGEST_LANE_TEXT {
-            return Ok(lane_text(self.lane().present(), buffer));
-        }
-        let mut text = [0; LONGEST_LANE_TEXT];
-        let length = lane_text(self.lane().present(), &mut text);
-        let buffer = buffer.get_mut(..length).ok_or(Refusal::BufferTooShort)?;
-        buffer.copy_from_slice(&text[..length]);
-        Ok(length)
+        let lane = self.lane();
+        lane.sound_row::<Self::Stopping>()?;
+        put::<LONGEST_LANE_TEXT>(buffer, |buffer| lane_text(lane.present(), buffer))
+    }
+
+    /// Writes the whole lane into `buffer`, for a new host, and gives the text's
+    /// length; the bytes after the text keep what they held.
+    fn handover(&self, buffer: &mut [u8]) -> Result<usize, Refusal> {
+        let lane = self.lane();
+        lane.sound_row::<Self::Stopping>()?;
+        put::<LONGEST_HANDOVER>(buffer, |buffer| handover_text(lane, buffer))
+    }
+
+    /// Begins with the lane of a handover text, whatever was there before. A text that
+    /// is refused leaves the empty lane, never started, with the house rows.
+    fn take_over(&mut self, text: &[u8]) -> Result<(), Refusal> {
+        let taken = Lane::handed_over::<Self::Stopping>(text);
+        *self.lane_mut() = taken.unwrap_or_default();
+        taken.map(|_| ())
     }
 
     /// Puts the lane on another surface, of the rows in force, if the whole of it
@@ -190,6 +200,12 @@ pub trait Supervisor {
                 let length = self.lane_text(&mut buffer)?;
                 buffer.truncate(length);
                 Ok(Answer::LaneText(buffer))
+            }
+            Call::Handover { room } => {
+                let mut buffer = vec![0; room];
+                let length = self.handover(&mut buffer)?;
+                buffer.truncate(length);
+                Ok(Answer::HandoverText(buffer))
             }
             Call::Surface { surface } => self.surface(surface).map(|()| Answer::SurfaceChanged),
             Call::Load { ref text } => self.load(text).map(|()| Answer::Loaded),

@@ -62,19 +62,24 @@ impl Lane {
     /// The row in force of a started lane that breaks no rule; else refusal 21.
     /// Rows are looked at before a stop is reckoned with one of them.
     pub fn sound_row<S: Stopping>(&self) -> Result<Row, Refusal> {
-        let bounded = self.started && self.count <= PLACES as u64 && self.tables.are_sound();
-        match self.road.row(&self.tables.in_force) {
-            Ok(row) if bounded && self.is_sound::<S>(&row) => Ok(row),
-            _ => Err(Refusal::LaneUnsound),
-        }
+        self.lawful_row()
+            .filter(|row| self.is_safe::<S>(row))
+            .ok_or(Refusal::LaneUnsound)
     }
 
-    /// Each carrier is lawful and has a number of its own, and the lane is safe.
-    fn is_sound<S: Stopping>(&self, row: &Row) -> bool {
+    /// The row in force of a started lane that breaks no rule, but that it may not be
+    /// safe.
+    pub(super) fn lawful_row(&self) -> Option<Row> {
+        let bounded = self.started && self.count <= PLACES as u64 && self.tables.are_sound();
+        let row = self.road.row(&self.tables.in_force).ok();
+        row.filter(|_| bounded && self.has_lawful_carriers())
+    }
+
+    /// Each carrier is lawful and has a number of its own.
+    fn has_lawful_carriers(&self) -> bool {
         let (carriers, mut met) = (self.present(), Met::NONE);
-        let lawful = (0..carriers.len())
-            .all(|place| carriers[place].is_lawful(&self.road) && !met.again(carriers, place));
-        lawful && self.is_safe::<S>(row)
+        (0..carriers.len())
+            .all(|place| carriers[place].is_lawful(&self.road) && !met.again(carriers, place))
     }
 
     /// Whether each carrier is safe behind the next one ahead, all of them lawful.

@@ -1,6 +1,6 @@
-//! Ways to break a well-formed program input or table text. Each leaves it
-//! malformed for certain, so that the program must end with refusal 8 and a
-//! load must get 31.
+//! Ways to break a well-formed program input, table text or handover text. Each
+//! leaves it malformed for certain, so that the program must end with refusal 8, a
+//! load must get 31 and a reading 36.
 
 use super::Random;
 

@@ -1,35 +1,35 @@
 //! The next call of a history, fitted to the lane it meets.
 
 use super::entries::{closing_up, closing_up_for_change, entry, known_number};
+use super::handovers::{handover_text, lane_lines};
 use super::openings::{entry_in, question};
-use super::programs::carrier_lines;
 use super::surfaces::surface;
 use super::table_texts::load_text;
 use super::wishes::wishes;
 use super::Random;
 use crate::call::Call;
-use crate::lane::{Lane, LONGEST_LANE_TEXT};
+use crate::lane::{Lane, LONGEST_HANDOVER, LONGEST_LANE_TEXT};
 use crate::road::Road;
 
 /// How likely each sort of call is: closing up at the back, the same for another
 /// row too, any other entry, cycle, leave, read, lane text, good start, any start,
-/// change of surface, load, question where one could enter.
-pub type Weights = [u64; 12];
+/// change of surface, load, question where one could enter, handover.
+pub type Weights = [u64; 13];
 
 /// All sorts of calls.
-pub const EVEN: Weights = [10, 5, 25, 30, 12, 8, 8, 1, 2, 6, 4, 12];
+pub const EVEN: Weights = [10, 5, 25, 30, 12, 8, 8, 1, 2, 6, 4, 12, 4];
 
 /// Cycles alone.
-pub const CYCLES: Weights = [0, 0, 0, 1, 0, 0, 0, 0, 0, 0, 0, 0];
+pub const CYCLES: Weights = [0, 0, 0, 1, 0, 0, 0, 0, 0, 0, 0, 0, 0];
 
 /// Loads before and after a start, and what shows that they do no more.
-pub const LOADS: Weights = [1, 0, 0, 3, 1, 1, 1, 3, 1, 2, 12, 1];
+pub const LOADS: Weights = [1, 0, 0, 3, 1, 1, 1, 3, 1, 2, 12, 1, 2];
 
 /// Changes of surface, and what shows which row is in force after them.
-pub const RAIN: Weights = [0, 8, 8, 24, 6, 2, 2, 0, 0, 24, 1, 2];
+pub const RAIN: Weights = [0, 8, 8, 24, 6, 2, 2, 0, 0, 24, 1, 2, 2];
 
 /// Questions where one could enter, and what makes and closes gaps.
-pub const OPENINGS: Weights = [4, 0, 4, 4, 12, 1, 1, 0, 0, 2, 0, 40];
+pub const OPENINGS: Weights = [4, 0, 4, 4, 12, 1, 1, 0, 0, 2, 0, 40, 1];
 
 /// A call on `lane`, which may be any lane.
 pub fn call(random: &mut Random, lane: &Lane, weights: &Weights) -> Call {
@@ -53,10 +53,11 @@ pub fn call(random: &mut Random, lane: &Lane, weights: &Weights) -> Call {
         10 => Call::Load {
             text: load_text(random),
         },
-        _ => {
+        11 => {
             let (gap, newcomer) = question(random, lane);
             Call::FindOpening { gap, newcomer }
         }
+        _ => handover(random, lane),
     }
 }
 
@@ -87,14 +88,21 @@ fn cycle(random: &mut Random, lane: &Lane) -> Call {
     Call::Cycle { count, wishes }
 }
 
-/// Buffers about the length of the text.
 fn lane_text(random: &mut Random, lane: &Lane) -> Call {
-    let carriers = lane.present().iter().map(carrier_lines);
-    let head = format!("cars={}\n", lane.present().len());
-    let length = carriers.fold(head, |text, lines| text + &lines).len();
     Call::LaneText {
-        room: random.pick(&[length, length, length - 1, length + 1, 0, LONGEST_LANE_TEXT]),
+        room: room(random, lane_lines(lane).len(), LONGEST_LANE_TEXT),
     }
+}
+
+fn handover(random: &mut Random, lane: &Lane) -> Call {
+    Call::Handover {
+        room: room(random, handover_text(lane).len(), LONGEST_HANDOVER),
+    }
+}
+
+/// A buffer about the length of its text.
+fn room(random: &mut Random, length: usize, longest: usize) -> usize {
+    random.pick(&[length, length, length - 1, length + 1, 0, longest])
 }
 
 /// A start, with arguments outside their ranges now and then.

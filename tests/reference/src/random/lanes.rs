@@ -221,7 +221,7 @@ fn level_with_tail(lane: &mut Lane, follower: usize, ahead: usize) {
 
 /// Makes the one next ahead too long by one for the follower to be safe, be it
 /// that no carrier may be so long.
-fn too_long(lane: &mut Lane, follower: usize) {
+pub(super) fn too_long(lane: &mut Lane, follower: usize) {
     let row = row_of(lane);
     let follower_there = lane.carriers[follower];
     let leader = &mut lane.carriers[follower - 1];
@@ -232,7 +232,7 @@ fn too_long(lane: &mut Lane, follower: usize) {
 
 /// Puts the lane on a surface on which it is not safe; where there is none, moves
 /// the follower too near.
-fn too_wet(random: &mut Random, lane: &mut Lane, follower: usize) {
+pub(super) fn too_wet(random: &mut Random, lane: &mut Lane, follower: usize) {
     match unsafe_surface(random, lane) {
         Some(code) => lane.road.surface = code,
         None => too_near(random, lane, follower),
@@ -262,7 +262,7 @@ fn widen(random: &mut Random, lane: &mut Lane) {
 }
 
 /// Moves the follower one past the nearest position that is safe.
-fn too_near(random: &mut Random, lane: &mut Lane, follower: usize) {
+pub(super) fn too_near(random: &mut Random, lane: &mut Lane, follower: usize) {
     let (leader, mut moved) = (lane.carriers[follower - 1], lane.carriers[follower]);
     let row = row_of(lane);
     moved.speed = speed(random, lane, &row, moved.rate).min(lane.road.limit);
@@ -274,7 +274,7 @@ fn too_near(random: &mut Random, lane: &mut Lane, follower: usize) {
 
 /// Gives the follower the greatest own rate with which it is not safe; where there
 /// is none, moves it too near.
-fn too_weak(random: &mut Random, lane: &mut Lane, follower: usize) {
+pub(super) fn too_weak(random: &mut Random, lane: &mut Lane, follower: usize) {
     let (leader, there) = (lane.carriers[follower - 1], lane.carriers[follower]);
     let row = row_of(lane);
     let weak = |&rate: &u64| {

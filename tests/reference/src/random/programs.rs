@@ -8,8 +8,8 @@ use crate::carrier::Carrier;
 use crate::program::LONGEST_INPUT;
 use crate::wish::Wish;
 
-/// The call text of a call; none for a reading, a question where one could enter or
-/// a load, nor for a cycle whose count no text can hold.
+/// The call text of a call; none for a read, a question where one could enter, a
+/// handover or a load, nor for a cycle whose count no text can hold.
 pub fn call_text(call: &Call) -> Option<String> {
     match call {
         Call::Start { road, first } => Some(format!(
@@ -25,7 +25,10 @@ pub fn call_text(call: &Call) -> Option<String> {
         }
         Call::LaneText { .. } => Some("call=show\n".to_string()),
         Call::Surface { surface } => Some(format!("call=surface\nsurface={surface}\n")),
-        Call::Read { .. } | Call::FindOpening { .. } | Call::Load { .. } => None,
+        Call::Read { .. }
+        | Call::FindOpening { .. }
+        | Call::Handover { .. }
+        | Call::Load { .. } => None,
     }
 }
 

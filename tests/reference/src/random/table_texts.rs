@@ -78,12 +78,12 @@ fn in_rows(text: &[u8], order: fn(&mut [&str])) -> Vec<u8> {
 
 /// A number that is the same again where a sum wraps at 64 bits, or one with
 /// zeros before it up to a line of the greatest length or one byte more.
-fn overlong_number(random: &mut Random, text: &[u8]) -> Option<Vec<u8>> {
+pub(super) fn overlong_number(random: &mut Random, text: &[u8]) -> Option<Vec<u8>> {
     let mut lines = lines_of(text);
     let place = random.index(lines.len());
     let (key, value) = lines[place].split_once('=')?;
     let number: u128 = value.parse().ok()?;
-    let zeros = LONGEST_LINE - "b=\n".len() + random.index(2);
+    let zeros = LONGEST_LINE - key.len() - "=\n".len() + random.index(2);
     let wrapping = format!("{key}={}", (1 << 64) + number);
     let filled = format!("{key}={number:0zeros$}");
     lines[place] = random.pick(&[&wrapping, &filled]);

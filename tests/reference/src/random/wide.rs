@@ -39,8 +39,8 @@ fn wide_code(random: &mut Random, code: u64) -> u64 {
     above(random, 3, code)
 }
 
-/// The call with one argument above the width that it has; a cycle, a lane text
-/// and a load stay as they are.
+/// The call with one argument above the width that it has; a cycle, a load and what
+/// only writes text stay as they are.
 pub fn widened(random: &mut Random, call: &Call) -> Call {
     let mut call = call.clone();
     let argument = random.below(60);
@@ -65,7 +65,8 @@ pub fn widened(random: &mut Random, call: &Call) -> Call {
         },
         Call::Leave { number } | Call::Read { number } => *number = wide_number(random, *number),
         Call::Surface { surface } => *surface = wide_code(random, *surface),
-        Call::Cycle { .. } | Call::LaneText { .. } | Call::Load { .. } => (),
+        Call::Cycle { .. } | Call::Load { .. } => (),
+        Call::LaneText { .. } | Call::Handover { .. } => (),
     }
     call
 }

@@ -27,6 +27,14 @@ impl Checker {
         }
     }
 
+    /// For a history that begins with what a reading left.
+    pub fn after_reading(text: &[u8], refused: bool, first: &Lane) -> Result<Checker, Breach> {
+        let book = RoadBook::after_reading(text, refused)?;
+        let checker = Checker { book };
+        checker.agrees(first)?;
+        Ok(checker)
+    }
+
     /// Takes the next call, what it answered (the word counts for a cycle
     /// only) and the lane after it.
     pub fn observe<S: Stopping>(
@@ -41,7 +49,12 @@ impl Checker {
             self.replaced_rightly::<S>(wishes, word)?;
         }
         self.book.record(call, refused, word)?;
-        let held = RoadBook::of(after);
+        self.agrees(after)
+    }
+
+    /// The lane has what the book has, and each front is below every tail ahead.
+    fn agrees(&self, lane: &Lane) -> Result<(), Breach> {
+        let held = RoadBook::of(lane);
         if held != self.book {
             return Err(format!(
                 "the lane has {held:?}, but the book {:?}",
@@ -118,8 +131,27 @@ fn in_order(ends: impl Iterator<Item = (i128, i128)>) -> Result<(), usize> {
 }
 
 /// Runs `calls` on `lane`, which holds no carriers, and checks each of them.
-pub fn check_history<L: Supervisor>(mut lane: L, calls: &[Call]) -> Result<(), Breach> {
-    let mut checker = Checker::new(lane.lane());
+pub fn check_history<L: Supervisor>(lane: L, calls: &[Call]) -> Result<(), Breach> {
+    let checker = Checker::new(lane.lane());
+    check_calls(checker, lane, calls)
+}
+
+/// As [`check_history`], after a reading of `text`, whatever `lane` was before.
+pub fn check_taken_over<L: Supervisor>(
+    mut lane: L,
+    text: &[u8],
+    calls: &[Call],
+) -> Result<(), Breach> {
+    let refused = lane.take_over(text).is_err();
+    let checker = Checker::after_reading(text, refused, lane.lane())?;
+    check_calls(checker, lane, calls)
+}
+
+fn check_calls<L: Supervisor>(
+    mut checker: Checker,
+    mut lane: L,
+    calls: &[Call],
+) -> Result<(), Breach> {
     for (index, call) in calls.iter().enumerate() {
         let answer = lane.call(call);
         let word = match answer {

@@ -2,6 +2,7 @@
 #![allow(dead_code)]
 
 pub mod edges;
+pub mod handover;
 
 use lane_reference::random::table_text;
 use lane_reference::road_book::Checker;
@@ -102,7 +103,7 @@ pub fn wishes(first: &[Wish]) -> [Wish; PLACES] {
 }
 
 /// The calls that look at the whole lane: a start does not.
-pub fn calls_that_look() -> [Call; 9] {
+pub fn calls_that_look() -> [Call; 10] {
     [
         Call::Enter(carrier(0, 0, 0)),
         Call::Leave { number: 0 },
@@ -110,6 +111,7 @@ pub fn calls_that_look() -> [Call; 9] {
         ask(Gap::Behind(0), newcomer(u64::MAX, u64::MAX, 0)),
         ask(Gap::AheadOfAll, newcomer(u64::MAX, u64::MAX, 0)),
         Call::LaneText { room: 0 },
+        Call::Handover { room: 0 },
         Call::Surface { surface: 8 },
         Call::Load { text: Vec::new() },
         Call::Cycle {
