@@ -202,10 +202,10 @@ const KEYS_OF_HEAD: usize = 8;
 fn other_number(random: &mut Random, value: u128) -> u128 {
     let edge: u128 = random.pick(&[1, 8, 256, 8_193, 1 << 16, 1 << 31, 1 << 32, 1 << 64]);
     let width = random.pick(&[8, 16, 32, 64]);
-    match random.below(4) {
+    match random.below(5) {
         0 => value + 1,
         1 => value.saturating_sub(1),
-        2 => edge - u128::from(random.below(2)),
+        2..=3 => edge - u128::from(random.below(2)),
         _ => value + (1 << width),
     }
 }

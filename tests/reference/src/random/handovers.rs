@@ -38,7 +38,7 @@ pub fn lane_lines(lane: &Lane) -> String {
 
 /// A text to read, accepted or refused, mostly by as little as can be.
 pub fn text_to_read(random: &mut Random) -> Vec<u8> {
-    match random.below(24) {
+    match random.below(26) {
         0..=3 => sound_text(random),
         4..=5 => handover_text(&lane_of_two_rows(random)),
         6..=8 => handover_text(&unsafe_lane(random)),
@@ -49,7 +49,7 @@ pub fn text_to_read(random: &mut Random) -> Vec<u8> {
             garbled(random, text)
         }
         17 => changed(random, rearranged),
-        18..=19 => changed(random, number_changed),
+        18..=21 => changed(random, number_changed),
         _ => malformed_handover_text(random),
     }
 }

@@ -57,7 +57,7 @@ pub fn history(random: &mut Random, calls: usize) -> History {
 pub fn taken_over(random: &mut Random, calls: usize) -> TakenOver {
     let text = match random.below(10) {
         0 => text_to_read(random),
-        1 => handover_text(&sound_lane(random)),
+        1..=2 => handover_text(&sound_lane(random)),
         _ => text_of_history(random),
     };
     let mut lane = FastLane::default();

@@ -30,7 +30,9 @@ pub fn unsafe_lane(random: &mut Random) -> Lane {
 
 /// Makes a sound lane of several carriers unsafe, at any place.
 fn make_unsafe(random: &mut Random, lane: &mut Lane) {
-    let follower = 1 + random.index(lane.present().len() - 1);
+    let last = lane.present().len() - 1;
+    let any = 1 + random.index(last);
+    let follower = random.pick(&[1, last, any, any]);
     match random.below(10) {
         0..=2 => mix_up(random, lane),
         3..=4 => about_tail(random, lane, follower),
