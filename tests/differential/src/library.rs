@@ -4,6 +4,7 @@ mod binding;
 mod case;
 mod check;
 mod generate;
+mod handovers;
 mod host;
 mod host_call;
 mod notation;

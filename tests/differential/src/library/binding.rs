@@ -2,7 +2,7 @@
 //! lane is looked at as plain words, row by row.
 
 /// The interface that this file is for.
-pub const VERSION: u32 = 7;
+pub const VERSION: u32 = 8;
 
 /// A lane as it is lent.
 pub type Words = [[u64; 8]; 89];
@@ -106,6 +106,8 @@ extern "C" {
         newcomer: Newcomer,
     ) -> Opening;
     pub fn rondavitse_lane_text(lane: *const Words, out: *mut u8, out_len: usize) -> Listed;
+    pub fn rondavitse_handover(lane: *const Words, out: *mut u8, out_length: usize) -> Listed;
+    pub fn rondavitse_take_over(lane: *mut Words, text: *const u8, text_length: usize) -> u32;
     pub fn rondavitse_surface(lane: *mut Words, surface: u64) -> u32;
     pub fn rondavitse_load(lane: *mut Words, text: *const u8, text_length: usize) -> u32;
     pub fn rondavitse_step(

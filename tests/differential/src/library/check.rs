@@ -2,6 +2,7 @@
 
 use super::binding::Words;
 use super::case::Case;
+use super::handovers;
 use super::host;
 use super::host_call::{gap, HostCall};
 use super::openings;
@@ -10,7 +11,7 @@ use super::reference;
 use super::words;
 use lane_reference::road_book::Checker;
 use lane_reference::stopping::Fast;
-use lane_reference::{Call, Wish, PLACES};
+use lane_reference::{Call, Lane, Wish, PLACES};
 
 /// How many calls were made, and what the last of them did wrong.
 ///
@@ -18,7 +19,7 @@ use lane_reference::{Call, Wish, PLACES};
 /// with other words where no answer may depend on them.
 pub fn run(case: &Case) -> (u64, Result<(), String>) {
     let mut lane = case.first;
-    // The road book is for histories, which begin without carriers.
+    // The road book is for histories, which begin without carriers or with a reading.
     let first = words::lane(&lane);
     let mut book = (first.count == 0).then(|| Checker::new(&first));
     for (calls, call) in (1..).zip(&case.calls) {
@@ -28,10 +29,8 @@ pub fn run(case: &Case) -> (u64, Result<(), String>) {
         let wrong = compared(&before, call, &outcome)
             .and_then(|()| kept(&before, call, &outcome, &lane))
             .and_then(|()| openings::tried(&before, call, &outcome))
-            .and_then(|()| match &mut book {
-                Some(book) => recorded(book, call, &outcome),
-                None => Ok(()),
-            });
+            .and_then(|()| handovers::tried(call, &outcome, &lane))
+            .and_then(|()| recorded(&mut book, call, &outcome));
         if let Err(what) = wrong {
             return (calls, Err(format!("{call:?}\n{what}")));
         }
@@ -61,25 +60,43 @@ fn compared(before: &Words, call: &HostCall, outcome: &Outcome) -> Result<(), St
 }
 
 /// After a refusal, and after a call that only reads, every word is as before;
-/// after a change of surface, every word but that code.
+/// after a change of surface, every word but that code; and after a refused reading
+/// every word is that of the empty lane.
 fn kept(before: &Words, call: &HostCall, outcome: &Outcome, after: &Words) -> Result<(), String> {
     let expected = match *call {
         HostCall::Plain(Call::Surface { surface }) if outcome.no == 0 => {
             words::on_surface(before, surface)
         }
         _ if outcome.no == 0 && !call.only_reads() => return Ok(()),
+        HostCall::TakeOver { .. } => words::plain(&Lane::default()),
         _ => *before,
     };
     if expected == *after {
         return Ok(());
     }
     let rows = (0..before.len()).filter(|&row| expected[row] != after[row]);
-    Err(format!("rows changed: {:?}", rows.collect::<Vec<_>>()))
+    Err(format!(
+        "rows that are wrong: {:?}",
+        rows.collect::<Vec<_>>()
+    ))
 }
 
-/// Demand 3, from the product's own answers.
-fn recorded(book: &mut Checker, call: &HostCall, outcome: &Outcome) -> Result<(), String> {
-    let (call, word) = match call {
+/// Demand 3, from the product's own answers. A reading begins a history, with a book
+/// of its own.
+fn recorded(book: &mut Option<Checker>, call: &HostCall, outcome: &Outcome) -> Result<(), String> {
+    let (refused, after) = (outcome.no != 0, &outcome.lane);
+    if let HostCall::TakeOver { text } = call {
+        *book = Some(Checker::after_reading(text, refused, after)?);
+    }
+    let (Some(book), Some((call, word))) = (book, recordable(call, outcome)) else {
+        return Ok(());
+    };
+    book.observe::<Fast>(&call, refused, word, after)
+}
+
+/// The call as the book takes it, and a cycle's word; none for a reading.
+fn recordable(call: &HostCall, outcome: &Outcome) -> Option<(Call, u64)> {
+    Some(match call {
         HostCall::Plain(call) => (call.clone(), 0),
         HostCall::Cycle {
             count,
@@ -94,8 +111,8 @@ fn recorded(book: &mut Checker, call: &HostCall, outcome: &Outcome) -> Result<()
             let gap = gap(head, number);
             (Call::FindOpening { gap, newcomer }, 0)
         }
-    };
-    book.observe::<Fast>(&call, outcome.no != 0, word, &outcome.lane)
+        HostCall::TakeOver { .. } => return None,
+    })
 }
 
 /// The cycle that a host's lists mean; the book looks at one that ran only.

@@ -7,7 +7,8 @@ use super::host_call::HostCall;
 use super::words;
 use lane_reference::random::{
     calls_on, calls_on_empty, gapped_lane, history, never_started_lane, short_lane, sound_lane,
-    unsound_lane, widened, History, Random, Weights, EVEN, FLOAT_EDGES, LOADS, OPENINGS, RAIN,
+    taken_over, text_to_read, unsound_lane, widened, History, Random, TakenOver, Weights, EVEN,
+    FLOAT_EDGES, LOADS, OPENINGS, RAIN,
 };
 use lane_reference::{Call, Gap, Lane, Newcomer, Wish, PLACES};
 
@@ -31,6 +32,41 @@ const ANY_PLAN: [Weights; 5] = [EVEN, EVEN, LOADS, RAIN, OPENINGS];
 const NO_SORTS: [u8; 6] = [4, 5, 8, 127, 128, 255];
 
 pub fn case(random: &mut Random) -> Case {
+    match random.below(15) {
+        0..=1 => handed_on(random),
+        2 => readings(random),
+        _ => history_or_calls(random),
+    }
+}
+
+/// A lane taken over, whatever was lent, and what follows; some cases go on with
+/// other readings.
+fn handed_on(random: &mut Random) -> Case {
+    let first = words::any(random);
+    let mut calls = Vec::new();
+    for _ in 0..random.pick(&[1, 1, 2]) {
+        let length = random.pick(&[1, 20, 130]);
+        let TakenOver {
+            text,
+            calls: following,
+        } = taken_over(random, length);
+        calls.push(HostCall::TakeOver { text });
+        calls.extend(following.into_iter().map(|call| hosted(random, call)));
+    }
+    Case { first, calls }
+}
+
+/// Readings alone, of texts of all sorts, one after the other on one lane.
+fn readings(random: &mut Random) -> Case {
+    let calls = (0..12).map(|_| HostCall::TakeOver {
+        text: text_to_read(random),
+    });
+    let calls = calls.collect();
+    let first = words::any(random);
+    Case { first, calls }
+}
+
+fn history_or_calls(random: &mut Random) -> Case {
     let (first, calls) = match random.below(11) {
         0..=2 => {
             let History { first, calls } = history(random, 130);

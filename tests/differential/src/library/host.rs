@@ -2,7 +2,7 @@
 
 use super::binding::*;
 use super::host_call::HostCall;
-use super::outcome::{lent, lent_text, within, Outcome};
+use super::outcome::{lent, lent_handover, lent_table, within, Outcome};
 use super::words;
 use lane_reference::Call;
 
@@ -30,7 +30,9 @@ pub fn empty() -> Words {
 pub fn outcome(lane: &mut Words, call: &HostCall) -> Outcome {
     match call {
         HostCall::Plain(Call::LaneText { room }) => lane_text(lane, *room),
+        HostCall::Plain(Call::Handover { room }) => handover(lane, *room),
         HostCall::Plain(Call::Load { text }) => load(lane, text),
+        HostCall::TakeOver { text } => take_over(lane, text),
         HostCall::Plain(call) => {
             let (no, values) = plain(lane, call);
             Outcome::new(no, &values, &words::lane(lane))
@@ -79,7 +81,9 @@ fn plain(lane: &mut Words, call: &Call) -> (u32, Vec<u64>) {
             )
         }
         Call::Surface { surface } => (unsafe { rondavitse_surface(lane, surface) }, vec![]),
-        Call::LaneText { .. } | Call::Load { .. } => unreachable!("these are lent a buffer"),
+        Call::LaneText { .. } | Call::Handover { .. } | Call::Load { .. } => {
+            unreachable!("these are lent a buffer")
+        }
         Call::Cycle { .. } => unreachable!("a host's cycle is no plain call"),
         Call::FindOpening { .. } => unreachable!("nor is a host's question"),
     }
@@ -119,9 +123,24 @@ fn lane_text(lane: &Words, room: usize) -> Outcome {
 }
 
 fn load(lane: &mut Words, text: &[u8]) -> Outcome {
-    let mut lent = lent_text(text);
+    let mut lent = lent_table(text);
     let text = within(&mut lent);
     let no = unsafe { rondavitse_load(lane, text.as_ptr(), text.len()) };
+    Outcome::new(no, &[], &words::lane(lane)).with_lent(lent)
+}
+
+fn handover(lane: &Words, room: usize) -> Outcome {
+    let mut lent = lent(room);
+    let buffer = within(&mut lent);
+    let Listed { no, length } =
+        unsafe { rondavitse_handover(lane, buffer.as_mut_ptr(), buffer.len()) };
+    Outcome::new(no, &[length as u64], &words::lane(lane)).with_lent(lent)
+}
+
+fn take_over(lane: &mut Words, text: &[u8]) -> Outcome {
+    let mut lent = lent_handover(text);
+    let text = within(&mut lent);
+    let no = unsafe { rondavitse_take_over(lane, text.as_ptr(), text.len()) };
     Outcome::new(no, &[], &words::lane(lane)).with_lent(lent)
 }
 

@@ -20,6 +20,9 @@ pub enum HostCall {
         number: u64,
         newcomer: Newcomer,
     },
+    /// A reading, with which a history begins: it may come anywhere, and what the lane
+    /// was before is not looked at.
+    TakeOver { text: Vec<u8> },
 }
 
 impl HostCall {
@@ -37,7 +40,7 @@ impl HostCall {
     pub fn only_reads(&self) -> bool {
         matches!(
             self,
-            HostCall::Plain(Call::Read { .. } | Call::LaneText { .. })
+            HostCall::Plain(Call::Read { .. } | Call::LaneText { .. } | Call::Handover { .. })
                 | HostCall::FindOpening { .. }
         )
     }

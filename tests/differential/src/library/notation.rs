@@ -1,5 +1,5 @@
-//! Cases as text: a word and its figures on each line. The figures of a load
-//! are the bytes of its text.
+//! Cases as text: a word and its figures on each line. The figures of a load and of
+//! a reading are the bytes of its text.
 
 use super::binding::Words;
 use super::case::Case;
@@ -49,6 +49,7 @@ fn print_call(call: &HostCall) -> String {
             let figures = [head, number, speed, length, rate];
             format!("find_opening{}\n", joined(&figures))
         }
+        HostCall::TakeOver { text } => format!("take_over{}\n", joined(text)),
     }
 }
 
@@ -71,6 +72,7 @@ fn print_plain(call: &Call) -> String {
         Call::Leave { number } => format!("leave {number}\n"),
         Call::Read { number } => format!("read {number}\n"),
         Call::LaneText { room } => format!("lane_text {room}\n"),
+        Call::Handover { room } => format!("handover {room}\n"),
         Call::Surface { surface } => format!("surface {surface}\n"),
         Call::Load { text } => format!("load{}\n", joined(text)),
         Call::Cycle { .. } => unreachable!("a host's cycle is no plain call"),
@@ -137,6 +139,9 @@ fn parse_call(word: &str, words: &mut SplitWhitespace, calls: &mut Vec<HostCall>
                 rate: figure(words)?,
             },
         }),
+        ("take_over", _) => calls.push(HostCall::TakeOver {
+            text: figures(words)?,
+        }),
         _ => calls.push(HostCall::Plain(parse_plain(word, words)?)),
     }
     Some(())
@@ -166,6 +171,9 @@ fn parse_plain(word: &str, words: &mut SplitWhitespace) -> Option<Call> {
             number: figure(words)?,
         },
         "lane_text" => Call::LaneText {
+            room: figure(words)?,
+        },
+        "handover" => Call::Handover {
             room: figure(words)?,
         },
         "surface" => Call::Surface {

@@ -47,17 +47,54 @@ pub fn lent(room: usize) -> Vec<u8> {
 
 /// A table text between guards. What lies behind its end would go on with it:
 /// nobody may look there.
-pub fn lent_text(text: &[u8]) -> Vec<u8> {
-    let lines = text.split(|&byte| byte == b'\n').count() - 1;
-    let rest: &[u8] = match (text.ends_with(b"\n"), lines % 3) {
-        (false, _) => b"\n",
-        (true, 0) => b"b=1\nB=1\nA=1\n",
-        (true, 1) => b"B=1\nA=1\n",
-        (true, _) => b"A=1\n",
+pub fn lent_table(text: &[u8]) -> Vec<u8> {
+    lent_text(text, &ROW[lines(text) % ROW.len()..])
+}
+
+/// A handover text between guards, as [`lent_table`].
+pub fn lent_handover(text: &[u8]) -> Vec<u8> {
+    let rest = match lines(text) {
+        read @ 0..TABLES => &ROW[read % ROW.len()..],
+        read @ TABLES..HEAD_END => &HEAD[read - TABLES..],
+        read => &CARRIER[(read - HEAD_END) % CARRIER.len()..],
+    };
+    lent_text(text, rest)
+}
+
+/// Lines of a row, of what follows the rows in a handover text, and of a carrier.
+const ROW: [&str; 3] = ["b=1\n", "B=1\n", "A=1\n"];
+const HEAD: [&str; 5] = [
+    "surface=0\n",
+    "end=1\n",
+    "limit=1\n",
+    "cycle=0\n",
+    "cars=0\n",
+];
+const CARRIER: [&str; 5] = ["car=1\n", "at=0\n", "speed=0\n", "length=0\n", "brake=1\n"];
+
+/// How many lines of a handover text are of rows, and how many come before carriers.
+const TABLES: usize = 48;
+const HEAD_END: usize = TABLES + HEAD.len();
+
+fn lines(text: &[u8]) -> usize {
+    text.iter().filter(|&&byte| byte == b'\n').count()
+}
+
+/// A text between guards, with as much of lines that would go on with it as there is
+/// room; an unfinished line goes on to its newline.
+fn lent_text(text: &[u8], going_on: &[&str]) -> Vec<u8> {
+    let finished = text.is_empty() || text.ends_with(b"\n");
+    let rest = if finished {
+        going_on.concat()
+    } else {
+        "\n".to_string()
     };
     let mut lent = lent(text.len());
-    lent[GUARD..][..text.len()].copy_from_slice(text);
-    lent[GUARD + text.len()..][..rest.len()].copy_from_slice(rest);
+    let behind = &mut lent[GUARD..];
+    behind[..text.len()].copy_from_slice(text);
+    for (byte, &on) in behind[text.len()..].iter_mut().zip(rest.as_bytes()) {
+        *byte = on;
+    }
     lent
 }
 

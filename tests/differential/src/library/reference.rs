@@ -1,15 +1,17 @@
 //! The reference's answers, in the shape of the product's.
 
 use super::host_call::{gap, HostCall};
-use super::outcome::{lent, lent_text, within, Outcome};
+use super::outcome::{lent, lent_handover, lent_table, within, Outcome};
 use lane_reference::{Answer, Call, Cycled, FastLane, Gap, Lane, Newcomer, Refusal, Supervisor};
 
 pub fn outcome(lane: &Lane, call: &HostCall) -> Outcome {
     match call {
         HostCall::Plain(Call::LaneText { room }) => lane_text(lane, *room),
+        HostCall::Plain(Call::Handover { room }) => handover(lane, *room),
         HostCall::Plain(call @ Call::Load { text }) => {
-            answered(lane, call).with_lent(lent_text(text))
+            answered(lane, call).with_lent(lent_table(text))
         }
+        HostCall::TakeOver { text } => take_over(lane, text),
         HostCall::Plain(call) => answered(lane, call),
         HostCall::Cycle {
             count,
@@ -39,7 +41,9 @@ fn values(answer: &Answer) -> Vec<u64> {
         Answer::Read(reading) => vec![reading.position.to_bits(), reading.speed.to_bits()],
         Answer::Cycled(_) => unreachable!("a host's cycle is no plain call"),
         Answer::OpeningFound(_) => unreachable!("nor is a host's question"),
-        Answer::LaneText(_) => unreachable!("lane texts go into a lent buffer"),
+        Answer::LaneText(_) | Answer::HandoverText(_) => {
+            unreachable!("texts go into a lent buffer")
+        }
     }
 }
 
@@ -47,7 +51,7 @@ fn values(answer: &Answer) -> Vec<u64> {
 fn no_values(call: &Call) -> &'static [u64] {
     match call {
         Call::Start { .. } | Call::Leave { .. } | Call::Surface { .. } | Call::Load { .. } => &[],
-        Call::Enter { .. } | Call::LaneText { .. } => &[0],
+        Call::Enter { .. } | Call::LaneText { .. } | Call::Handover { .. } => &[0],
         Call::Read { .. } => &[0; 2],
         Call::Cycle { .. } | Call::FindOpening { .. } => &[0; 3],
     }
@@ -69,6 +73,19 @@ fn lane_text(lane: &Lane, room: usize) -> Outcome {
     let listed = FastLane(*lane).lane_text(within(&mut lent));
     let no = listed.err().map_or(0, Refusal::number);
     Outcome::new(no, &[listed.unwrap_or(0) as u64], lane).with_lent(lent)
+}
+
+fn handover(lane: &Lane, room: usize) -> Outcome {
+    let mut lent = lent(room);
+    let listed = FastLane(*lane).handover(within(&mut lent));
+    let no = listed.err().map_or(0, Refusal::number);
+    Outcome::new(no, &[listed.unwrap_or(0) as u64], lane).with_lent(lent)
+}
+
+fn take_over(lane: &Lane, text: &[u8]) -> Outcome {
+    let mut after = FastLane(*lane);
+    let no = after.take_over(text).map_or_else(Refusal::number, |()| 0);
+    Outcome::new(no, &[], &after.0).with_lent(lent_handover(text))
 }
 
 fn cycle(lane: &Lane, count: u64, sorts: &[u8], values: &[u32]) -> Outcome {

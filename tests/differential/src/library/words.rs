@@ -1,7 +1,7 @@
 //! Which word of a lane is where, and what the free ones may hold.
 
 use super::binding::Words;
-use lane_reference::random::Random;
+use lane_reference::random::{sound_lane, unsound_lane, Random};
 use lane_reference::{Carrier, Lane, Road, Row, Table, Tables, PLACES};
 use std::array;
 
@@ -105,6 +105,20 @@ pub fn of_lane(random: &mut Random, lane: &Lane) -> Words {
         scramble(&mut words, seed);
     }
     words
+}
+
+/// Any words at all, as memory may hold them that nobody made a lane: often a lane's,
+/// or all alike.
+pub fn any(random: &mut Random) -> Words {
+    let word = random.bits();
+    match random.below(4) {
+        0..=1 => {
+            let lane = random.pick(&[sound_lane, unsound_lane])(random);
+            of_lane(random, &lane)
+        }
+        2 => [[random.pick(&[0, 1, u64::MAX, word]); 8]; 89],
+        _ => array::from_fn(|_| array::from_fn(|_| random.bits())),
+    }
 }
 
 /// Puts anything into the free words; the same for the same seed.
