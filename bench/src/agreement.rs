@@ -62,6 +62,11 @@ fn by_library(call: Call, sample: &mut Sample) -> (u32, Vec<u64>) {
             let answer = library::lane_text(sample);
             (answer.no, vec![answer.length as u64])
         }
+        Call::Handover => {
+            let answer = library::handover(sample);
+            (answer.no, vec![answer.length as u64])
+        }
+        Call::TakeOver => (library::take_over(sample), vec![]),
         Call::Surface => (library::surface(sample), vec![]),
         Call::Load => (library::load(sample), vec![]),
     }
@@ -85,6 +90,8 @@ fn by_reference(call: Call, sample: &mut Sample) -> Result<Vec<u64>, Refusal> {
             vec![1, opening.lowest, opening.highest]
         }
         Call::LaneText => vec![reference::lane_text(sample)? as u64],
+        Call::Handover => vec![reference::handover(sample)? as u64],
+        Call::TakeOver => reference::take_over(sample).map(|()| vec![])?,
         Call::Surface => reference::surface(sample).map(|()| vec![])?,
         Call::Load => reference::load(sample).map(|()| vec![])?,
     })

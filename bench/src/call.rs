@@ -12,12 +12,14 @@ pub enum Call {
     Read,
     Opening,
     LaneText,
+    Handover,
+    TakeOver,
     Surface,
     Load,
 }
 
 impl Call {
-    pub const ALL: [Call; 9] = [
+    pub const ALL: [Call; 11] = [
         Call::Start,
         Call::Enter,
         Call::Leave,
@@ -25,6 +27,8 @@ impl Call {
         Call::Read,
         Call::Opening,
         Call::LaneText,
+        Call::Handover,
+        Call::TakeOver,
         Call::Surface,
         Call::Load,
     ];
@@ -38,6 +42,8 @@ impl Call {
             Call::Read => "read",
             Call::Opening => "opening",
             Call::LaneText => "lane text",
+            Call::Handover => "handover",
+            Call::TakeOver => "take over",
             Call::Surface => "surface",
             Call::Load => "load",
         }

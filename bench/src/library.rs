@@ -5,7 +5,7 @@ use crate::sample::{carrier, newcomer, Sample};
 use rondavitse::binding::*;
 
 /// The functions of a call by their symbols.
-pub const SYMBOLS: [&str; 9] = [
+pub const SYMBOLS: [&str; 11] = [
     "rondavitse_start",
     "rondavitse_enter",
     "rondavitse_leave",
@@ -13,6 +13,8 @@ pub const SYMBOLS: [&str; 9] = [
     "rondavitse_read",
     "rondavitse_find_opening",
     "rondavitse_lane_text",
+    "rondavitse_handover",
+    "rondavitse_take_over",
     "rondavitse_surface",
     "rondavitse_load",
 ];
@@ -26,6 +28,8 @@ pub fn run(call: Call) -> fn(&mut Sample) {
         Call::Read => |sample| consume(read(sample)),
         Call::Opening => |sample| consume(opening(sample)),
         Call::LaneText => |sample| consume(lane_text(sample)),
+        Call::Handover => |sample| consume(handover(sample)),
+        Call::TakeOver => |sample| consume(take_over(sample)),
         Call::Surface => |sample| consume(surface(sample)),
         Call::Load => |sample| consume(load(sample)),
     }
@@ -64,6 +68,16 @@ pub fn opening(sample: &mut Sample) -> Opening {
 pub fn lane_text(sample: &mut Sample) -> Listed {
     let text = &mut sample.text;
     unsafe { rondavitse_lane_text(&sample.lanes.library, text.as_mut_ptr(), text.len()) }
+}
+
+pub fn handover(sample: &mut Sample) -> Listed {
+    let text = &mut sample.text;
+    unsafe { rondavitse_handover(&sample.lanes.library, text.as_mut_ptr(), text.len()) }
+}
+
+pub fn take_over(sample: &mut Sample) -> u32 {
+    let text = &sample.handover;
+    unsafe { rondavitse_take_over(&mut sample.lanes.library, text.as_ptr(), text.len()) }
 }
 
 pub fn surface(sample: &mut Sample) -> u32 {

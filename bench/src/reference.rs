@@ -8,7 +8,7 @@ use lane_reference::{
 };
 
 /// The functions of a call by their symbols.
-pub const SYMBOLS: [&str; 9] = [
+pub const SYMBOLS: [&str; 11] = [
     "reference_start",
     "reference_enter",
     "reference_leave",
@@ -16,6 +16,8 @@ pub const SYMBOLS: [&str; 9] = [
     "reference_read",
     "reference_find_opening",
     "reference_lane_text",
+    "reference_handover",
+    "reference_take_over",
     "reference_surface",
     "reference_load",
 ];
@@ -29,6 +31,8 @@ pub fn run(call: Call) -> fn(&mut Sample) {
         Call::Read => |sample| consume(read(sample)),
         Call::Opening => |sample| consume(opening(sample)),
         Call::LaneText => |sample| consume(lane_text(sample)),
+        Call::Handover => |sample| consume(handover(sample)),
+        Call::TakeOver => |sample| consume(take_over(sample)),
         Call::Surface => |sample| consume(surface(sample)),
         Call::Load => |sample| consume(load(sample)),
     }
@@ -65,6 +69,14 @@ pub fn opening(sample: &mut Sample) -> Result<Option<Opening>, Refusal> {
 
 pub fn lane_text(sample: &mut Sample) -> Result<usize, Refusal> {
     reference_lane_text(&sample.lanes.reference, &mut sample.text)
+}
+
+pub fn handover(sample: &mut Sample) -> Result<usize, Refusal> {
+    reference_handover(&sample.lanes.reference, &mut sample.text)
+}
+
+pub fn take_over(sample: &mut Sample) -> Result<(), Refusal> {
+    reference_take_over(&mut sample.lanes.reference, &sample.handover)
 }
 
 pub fn surface(sample: &mut Sample) -> Result<(), Refusal> {
@@ -124,6 +136,18 @@ fn reference_find_opening(
 #[inline(never)]
 fn reference_lane_text(lane: &FastLane, text: &mut [u8]) -> Result<usize, Refusal> {
     lane.lane_text(text)
+}
+
+#[no_mangle]
+#[inline(never)]
+fn reference_handover(lane: &FastLane, text: &mut [u8]) -> Result<usize, Refusal> {
+    lane.handover(text)
+}
+
+#[no_mangle]
+#[inline(never)]
+fn reference_take_over(lane: &mut FastLane, text: &[u8]) -> Result<(), Refusal> {
+    lane.take_over(text)
 }
 
 #[no_mangle]
