@@ -273,6 +273,14 @@ fn end_edges(given: &[u8]) -> Edges {
             "form: leading zeros",
             any(&|line| line.contains("=0") && !line.ends_with("=0")),
         ),
+        (
+            "form: leading zeros in the cycle number",
+            any(&|line| line.starts_with("cycle=0") && line != "cycle=0"),
+        ),
+        (
+            "form: leading zeros in cars",
+            any(&|line| line.starts_with("cars=0") && line != "cars=0"),
+        ),
         ("form: a minus", any(&|line| line.contains("=-"))),
         ("form: no number", any(&|line| line.ends_with('='))),
         (

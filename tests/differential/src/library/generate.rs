@@ -32,9 +32,9 @@ const ANY_PLAN: [Weights; 5] = [EVEN, EVEN, LOADS, RAIN, OPENINGS];
 const NO_SORTS: [u8; 6] = [4, 5, 8, 127, 128, 255];
 
 pub fn case(random: &mut Random) -> Case {
-    match random.below(15) {
+    match random.below(16) {
         0..=1 => handed_on(random),
-        2 => readings(random),
+        2..=3 => readings(random),
         _ => history_or_calls(random),
     }
 }
@@ -58,7 +58,7 @@ fn handed_on(random: &mut Random) -> Case {
 
 /// Readings alone, of texts of all sorts, one after the other on one lane.
 fn readings(random: &mut Random) -> Case {
-    let calls = (0..12).map(|_| HostCall::TakeOver {
+    let calls = (0..40).map(|_| HostCall::TakeOver {
         text: text_to_read(random),
     });
     let calls = calls.collect();

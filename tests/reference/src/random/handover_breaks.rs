@@ -170,11 +170,31 @@ fn swap_runs(lines: &mut [&str], [one, other]: [usize; 2], length: usize) {
 /// One number changed by one, or to an end of some range or width, or to one that is
 /// the same again where it is cut to fewer bits.
 pub fn number_changed(random: &mut Random, text: &[u8]) -> Vec<u8> {
+    with_number(random, text, |random, number| {
+        let value = number.parse().unwrap_or(0);
+        other_number(random, value).to_string()
+    })
+}
+
+/// One number written as none may be.
+pub fn number_misspelt(random: &mut Random, text: &[u8]) -> Vec<u8> {
+    with_number(random, text, |random, number| {
+        let spelling = random.pick(&["", "0#", "00#", "+#", "-#", " #", "# ", "#x", "#\r", "#\n"]);
+        spelling.replace('#', number)
+    })
+}
+
+/// One number, of any key, become what `other` makes of it.
+fn with_number(
+    random: &mut Random,
+    text: &[u8],
+    other: fn(&mut Random, &str) -> String,
+) -> Vec<u8> {
     let mut lines = lines_of(text);
     let (key, places) = lines_of_a_key(random, &lines);
     let place = random.pick(&places);
-    let value = lines[place][key.len() + 1..].parse().unwrap_or(0);
-    let changed = format!("{key}={}", other_number(random, value));
+    let number = &lines[place][key.len() + 1..];
+    let changed = format!("{key}={}", other(random, number));
     lines[place] = &changed;
     joined(&lines)
 }

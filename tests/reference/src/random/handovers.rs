@@ -2,7 +2,7 @@
 
 use super::breaks::{broken, garbled};
 use super::gaps::{gapped_lane, short_lane};
-use super::handover_breaks::{number_changed, rearranged, HANDOVER_BREAKS};
+use super::handover_breaks::{number_changed, number_misspelt, rearranged, HANDOVER_BREAKS};
 use super::lanes::{sound_lane, unsound_lane};
 use super::programs::carrier_lines;
 use super::table_texts::table_text;
@@ -85,11 +85,13 @@ pub fn malformed_handover_text(random: &mut Random) -> Vec<u8> {
 
 fn malformed(random: &mut Random, text: &[u8]) -> Vec<u8> {
     loop {
-        let broken = if random.chance(50) {
-            broken(random, text)
-        } else {
-            let handover_break = random.pick(&HANDOVER_BREAKS);
-            handover_break(random, text)
+        let broken = match random.below(3) {
+            0 => broken(random, text),
+            1 => Some(number_misspelt(random, text)),
+            _ => {
+                let handover_break = random.pick(&HANDOVER_BREAKS);
+                handover_break(random, text)
+            }
         };
         if let Some(broken) = broken {
             return broken;
