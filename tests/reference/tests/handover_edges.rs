@@ -245,11 +245,10 @@ fn twice_edges(lane: &Lane) -> Edges {
     ]
 }
 
-/// How a text that is not in its form ends, and what numbers stand in it.
+/// How a text that is not in its form ends.
 fn end_edges(given: &[u8]) -> Edges {
     let given_text = String::from_utf8_lossy(given);
     let lines: Vec<&str> = given_text.lines().collect();
-    let any = |met: &dyn Fn(&str) -> bool| lines.iter().any(|line| met(line));
     let read = |text: &[u8]| text::handover(text).is_ok();
     let without_cr = given_text.replace('\r', "");
     let one_less = &given[..given.len().saturating_sub(1)];
@@ -269,18 +268,24 @@ fn end_edges(given: &[u8]) -> Edges {
             read(&without_last_line(&lines)),
         ),
         ("form: CRLF", read(without_cr.as_bytes())),
+    ]
+}
+
+/// How its numbers are written.
+fn number_edges(given: &[u8]) -> Edges {
+    let given_text = String::from_utf8_lossy(given);
+    let any = |met: &dyn Fn(&str) -> bool| given_text.lines().any(met);
+    let zero_first = |key: &str| any(&|line| line.starts_with(key) && line != key);
+    vec![
         (
             "form: leading zeros",
             any(&|line| line.contains("=0") && !line.ends_with("=0")),
         ),
         (
             "form: leading zeros in the cycle number",
-            any(&|line| line.starts_with("cycle=0") && line != "cycle=0"),
+            zero_first("cycle=0"),
         ),
-        (
-            "form: leading zeros in cars",
-            any(&|line| line.starts_with("cars=0") && line != "cars=0"),
-        ),
+        ("form: leading zeros in cars", zero_first("cars=0")),
         ("form: a minus", any(&|line| line.contains("=-"))),
         ("form: no number", any(&|line| line.ends_with('='))),
         (
@@ -329,7 +334,7 @@ fn without_last_line(lines: &[&str]) -> Vec<u8> {
 fn reading_edges(given: &[u8], read: Result<(), Refusal>) -> Edges {
     let Ok(lane) = text::handover(given) else {
         assert_eq!(read, Err(Refusal::HandoverFaulty));
-        return [end_edges(given), count_edges(given)].concat();
+        return [end_edges(given), number_edges(given), count_edges(given)].concat();
     };
     let row = lane.tables.in_force.row(lane.road.surface);
     let present = lane.present();
