@@ -22,7 +22,7 @@ mod wide;
 mod wishes;
 
 pub use breaks::{break_line, LineBreak, Part, TextBreak, LINE_BREAKS, TEXT_BREAKS};
-pub use calls::{call, Weights, CYCLES, EVEN, LOADS, OPENINGS, RAIN};
+pub use calls::{call, Weights, CYCLES, EVEN, HANDOVERS, LOADS, OPENINGS, RAIN};
 pub use gaps::{gapped_lane, short_lane, SHORT_END};
 pub use handover_breaks::HANDOVER_BREAKS;
 pub use handovers::{handover_text, malformed_handover_text, text_to_read};

@@ -4,16 +4,12 @@
 mod common;
 
 use common::edges::{add, each_call, gaps, number, Edges, Met, Outcome};
+use common::handover::HANDOVERS_ALONE;
 use lane_reference::lane::LONGEST_HANDOVER;
-use lane_reference::random::{
-    call, handover_text, sound_lane, text_to_read, unsound_lane, Random, Weights,
-};
+use lane_reference::random::{call, handover_text, sound_lane, text_to_read, unsound_lane, Random};
 use lane_reference::stopping::Fast;
 use lane_reference::text;
 use lane_reference::{Call, Carrier, FastLane, Lane, Refusal, Row, Supervisor, Table};
-
-/// Handovers alone.
-const HANDOVERS: Weights = [0, 0, 0, 0, 0, 0, 0, 0, 0, 0, 0, 0, 1];
 
 /// How far each pair, front to back, is from being level, now and at rest.
 fn pair_gaps(row: &Row, carriers: &[Carrier]) -> Vec<[i64; 2]> {
@@ -445,7 +441,7 @@ fn lanes_handed_in_crowd_the_edges_of_handovers() {
     for _ in 0..5_000 {
         for lane in [sound_lane, unsound_lane] {
             let lane = lane(&mut random);
-            let next = call(&mut random, &lane, &HANDOVERS);
+            let next = call(&mut random, &lane, &HANDOVERS_ALONE);
             let outcome = FastLane(lane).call(&next);
             add(&mut met, edges(&lane, &next, &outcome));
         }

@@ -2,17 +2,14 @@
 
 mod common;
 
-use common::handover::{own_table, small_lane, taken, written, SMALL};
+use common::handover::{own_table, small_lane, taken, written, HANDOVERS_ALONE, SMALL};
 use common::{carrier, example_lane, full_lane, lane, lane_of, refused, road};
 use lane_reference::lane::{LONGEST_HANDOVER, LONGEST_LANE_TEXT};
 use lane_reference::random::{
     call, gapped_lane, handover_text, never_started_lane, sound_lane, text_to_read, unsound_lane,
-    Random, Weights,
+    Random,
 };
 use lane_reference::{Answer, Call, Carrier, FastLane, Lane, Refusal, Row, Supervisor, Table};
-
-/// Handovers alone.
-const HANDOVERS: Weights = [0, 0, 0, 0, 0, 0, 0, 0, 0, 0, 0, 0, 1];
 
 #[test]
 fn the_text_of_a_small_lane() {
@@ -185,7 +182,7 @@ fn a_handover_changes_nothing() {
     for _ in 0..3_000 {
         for lane in [sound_lane, unsound_lane, never_started_lane] {
             let lane = lane(&mut random);
-            let next = call(&mut random, &lane, &HANDOVERS);
+            let next = call(&mut random, &lane, &HANDOVERS_ALONE);
             let mut after = FastLane(lane);
             let answer = after.call(&next);
             assert_eq!(after.0, lane);

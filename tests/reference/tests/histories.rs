@@ -4,8 +4,8 @@ mod common;
 
 use common::{carrier, example_lane, lane_of, let_in, long_carrier, wishes};
 use lane_reference::random::{
-    call, history, sound_lane, unsound_lane, widened, History, Random, CYCLES, EVEN, LOADS,
-    OPENINGS, RAIN,
+    call, history, sound_lane, unsound_lane, widened, History, Random, CYCLES, EVEN, HANDOVERS,
+    LOADS, OPENINGS, RAIN,
 };
 use lane_reference::road_book::{check_history, Checker, Drive};
 use lane_reference::stopping::{Fast, Summed};
@@ -73,7 +73,7 @@ fn lanes_handed_in_are_judged() {
         let unsound = unsound_lane(&mut random);
         assert!(unsound.sound_row::<Fast>().is_err(), "{unsound:?}");
         for lane in [sound, unsound] {
-            let weights = random.pick(&[EVEN, LOADS, RAIN, OPENINGS]);
+            let weights = random.pick(&[EVEN, LOADS, RAIN, OPENINGS, HANDOVERS]);
             let call = call(&mut random, &lane, &weights);
             let mut after = FastLane(lane);
             let answer = after.call(&call);

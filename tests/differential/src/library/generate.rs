@@ -7,8 +7,8 @@ use super::host_call::HostCall;
 use super::words;
 use lane_reference::random::{
     calls_on, calls_on_empty, gapped_lane, history, never_started_lane, short_lane, sound_lane,
-    taken_over, text_to_read, unsound_lane, widened, History, Random, TakenOver, Weights, EVEN,
-    FLOAT_EDGES, LOADS, OPENINGS, RAIN,
+    taken_over, text_to_read, unsafe_lane, unsound_lane, widened, History, Random, TakenOver,
+    Weights, EVEN, FLOAT_EDGES, HANDOVERS, LOADS, OPENINGS, RAIN,
 };
 use lane_reference::{Call, Gap, Lane, Newcomer, Wish, PLACES};
 
@@ -25,8 +25,8 @@ const WIDE_UNITS: [u32; 8] = [
 ];
 
 /// Plans of calls on a lane: all sorts of them, or loads and starts above all,
-/// changes of surface, or questions where one could enter.
-const ANY_PLAN: [Weights; 5] = [EVEN, EVEN, LOADS, RAIN, OPENINGS];
+/// changes of surface, questions where one could enter, or handovers.
+const ANY_PLAN: [Weights; 6] = [EVEN, EVEN, LOADS, RAIN, OPENINGS, HANDOVERS];
 
 /// Sorts that do not exist.
 const NO_SORTS: [u8; 6] = [4, 5, 8, 127, 128, 255];
@@ -67,7 +67,7 @@ fn readings(random: &mut Random) -> Case {
 }
 
 fn history_or_calls(random: &mut Random) -> Case {
-    let (first, calls) = match random.below(11) {
+    let (first, calls) = match random.below(12) {
         0..=2 => {
             let History { first, calls } = history(random, 130);
             (words::of_lane(random, &first), calls)
@@ -77,6 +77,7 @@ fn history_or_calls(random: &mut Random) -> Case {
         6 => on_lane(random, gapped_lane, &[OPENINGS], 20),
         7 => on_lane(random, short_lane, &[OPENINGS], 20),
         8 => on_lane(random, never_started_lane, &ANY_PLAN, 8),
+        9 => on_lane(random, unsafe_lane, &ANY_PLAN, 4),
         _ => on_lane(random, unsound_lane, &ANY_PLAN, 4),
     };
     let calls = calls.into_iter().map(|call| hosted(random, call)).collect();

@@ -31,6 +31,9 @@ pub const RAIN: Weights = [0, 8, 8, 24, 6, 2, 2, 0, 0, 24, 1, 2, 2];
 /// Questions where one could enter, and what makes and closes gaps.
 pub const OPENINGS: Weights = [4, 0, 4, 4, 12, 1, 1, 0, 0, 2, 0, 40, 1];
 
+/// Handovers, and what changes the lane that is handed over.
+pub const HANDOVERS: Weights = [3, 1, 3, 8, 3, 0, 1, 1, 0, 4, 2, 0, 16];
+
 /// A call on `lane`, which may be any lane.
 pub fn call(random: &mut Random, lane: &Lane, weights: &Weights) -> Call {
     match random.weighted(weights) {

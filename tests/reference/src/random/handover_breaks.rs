@@ -16,7 +16,7 @@ const HEAD: usize = TABLES + ROAD + 1;
 const CARRIER: usize = 5;
 
 /// The breaks of the text as a whole.
-pub const HANDOVER_BREAKS: [TextBreak; 22] = [
+pub const HANDOVER_BREAKS: [TextBreak; 25] = [
     |_, _| Some(Vec::new()),
     cut,
     cut,
@@ -37,7 +37,10 @@ pub const HANDOVER_BREAKS: [TextBreak; 22] = [
     cars_changed,
     cars_changed,
     one_more_carrier,
+    one_more_carrier,
     one_carrier_less,
+    key_changed,
+    key_changed,
     overlong_number,
 ];
 
@@ -135,6 +138,21 @@ fn one_carrier_less(random: &mut Random, text: &[u8]) -> Option<Vec<u8>> {
     let place = HEAD + CARRIER * random.index(carriers.max(1));
     let without = |lines: &mut Vec<&str>| drop(lines.drain(place..place + CARRIER));
     (carriers > 0).then(|| with_lines(text, without))
+}
+
+/// The key of a line in other letters, or that of another line: each line has but one.
+fn key_changed(random: &mut Random, text: &[u8]) -> Option<Vec<u8>> {
+    let mut lines = lines_of(text);
+    let (key, places) = lines_of_a_key(random, &lines);
+    let (upper, lower) = (key.to_uppercase(), key.to_lowercase());
+    let capital = format!("{}{}", &upper[..1], &key[1..]);
+    let (more, less) = (format!("{key}s"), &key[..key.len() - 1]);
+    let any = random.pick(&KEYS);
+    let other = random.pick(&[&upper, &lower, &capital, &more, less, any]);
+    let place = random.pick(&places);
+    let changed = format!("{other}{}", &lines[place][key.len()..]);
+    lines[place] = &changed;
+    (other != key).then(|| joined(&lines))
 }
 
 /// Lines in another order, the keys in the same: tables, rows, carriers or two

@@ -2,7 +2,11 @@
 //! by hand, and readings.
 
 use super::{lane_of, Carrier};
+use lane_reference::random::Weights;
 use lane_reference::{Lane, Refusal, Row, Supervisor, Table, Tables};
+
+/// Of random calls, handovers alone.
+pub const HANDOVERS_ALONE: Weights = [0, 0, 0, 0, 0, 0, 0, 0, 0, 0, 0, 0, 1];
 
 /// The text of [`small_lane`].
 pub const SMALL: &str = "\
