@@ -1,4 +1,5 @@
-//! Call texts, table texts and handover texts: `key=value` lines in fixed order.
+//! Call texts, table texts and handover texts: `key=value` lines in fixed order. What
+//! all of them share is inline, as if each reader had it for itself.
 
 use crate::call::Call;
 use crate::carrier::Carrier;
@@ -13,6 +14,7 @@ pub const LONGEST_LINE: usize = 64;
 
 /// Reads the first line of `text`, which must begin with `key=`: its value,
 /// a part of `text`, and what follows the line.
+#[inline(always)]
 pub fn line<'a>(text: &'a [u8], key: &str) -> Result<(&'a [u8], &'a [u8]), Refusal> {
     let newline = text
         .iter()
@@ -86,6 +88,7 @@ struct Lines<'a> {
 }
 
 impl<'a> Lines<'a> {
+    #[inline(always)]
     fn value(&mut self, key: &str) -> Result<&'a [u8], Refusal> {
         let (value, rest) = line(self.rest, key)?;
         self.rest = rest;
@@ -93,6 +96,7 @@ impl<'a> Lines<'a> {
     }
 
     /// A number that a field of the width of `T` can hold.
+    #[inline(always)]
     fn number<T: TryFrom<u64>>(&mut self, key: &str) -> Result<u64, Refusal> {
         decimal(self.value(key)?)
             .filter(|&number| T::try_from(number).is_ok())
@@ -117,6 +121,7 @@ impl<'a> Lines<'a> {
         })
     }
 
+    #[inline(always)]
     fn row(&mut self) -> Result<Row, Refusal> {
         Ok(Row {
             guaranteed_braking: self.number::<u64>("b")?,
@@ -125,6 +130,7 @@ impl<'a> Lines<'a> {
         })
     }
 
+    #[inline(always)]
     fn table(&mut self) -> Result<Table, Refusal> {
         let mut rows = [Row::default(); SURFACES];
         for row in &mut rows {
@@ -179,6 +185,7 @@ fn units(figure: &[u8]) -> Option<i16> {
 }
 
 /// A decimal number of at most 64 bits, without sign or leading zeros.
+#[inline(always)]
 fn decimal(digits: &[u8]) -> Option<u64> {
     let leading_zero = digits.len() > 1 && digits[0] == b'0';
     if digits.is_empty() || leading_zero {

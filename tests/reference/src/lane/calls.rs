@@ -139,9 +139,12 @@ pub trait Supervisor {
     /// Begins with the lane of a handover text, whatever was there before. A text that
     /// is refused leaves the empty lane, never started, with the house rows.
     fn take_over(&mut self, text: &[u8]) -> Result<(), Refusal> {
-        let taken = Lane::handed_over::<Self::Stopping>(text);
-        *self.lane_mut() = taken.unwrap_or_default();
-        taken.map(|_| ())
+        let lane = self.lane_mut();
+        let taken = lane.read_handover::<Self::Stopping>(text);
+        if taken.is_err() {
+            *lane = Lane::default();
+        }
+        taken
     }
 
     /// Puts the lane on another surface, of the rows in force, if the whole of it

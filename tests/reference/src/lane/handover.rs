@@ -6,12 +6,12 @@ use crate::stopping::Stopping;
 use crate::text;
 
 impl Lane {
-    /// The lane of a handover text. First comes everything else that may be wrong with
-    /// it, and then alone whether it is safe, by the row in force.
-    pub(super) fn handed_over<S: Stopping>(text: &[u8]) -> Result<Lane, Refusal> {
-        let lane = text::handover(text).map_err(|_| Refusal::HandoverFaulty)?;
-        let row = lane.lawful_row().ok_or(Refusal::HandoverFaulty)?;
-        Refusal::HandoverUnsafe.when(!lane.is_safe::<S>(&row))?;
-        Ok(lane)
+    /// Becomes the lane of a handover text. First comes everything else that may be
+    /// wrong with it, and then alone whether it is safe, by the row in force; a lane
+    /// that is refused is left as it was found.
+    pub(super) fn read_handover<S: Stopping>(&mut self, text: &[u8]) -> Result<(), Refusal> {
+        *self = text::handover(text).map_err(|_| Refusal::HandoverFaulty)?;
+        let row = self.lawful_row().ok_or(Refusal::HandoverFaulty)?;
+        Refusal::HandoverUnsafe.when(!self.is_safe::<S>(&row))
     }
 }

@@ -1,4 +1,5 @@
-//! Check 21: the rules that a lane handed in must keep.
+//! Check 21: the rules that a lane handed in must keep. Calls that are measured beside
+//! the library's have them inline.
 
 use super::{Carrier, Lane, PLACES};
 use crate::carrier::{LONGEST_CARRIER, OWN_RATES};
@@ -69,6 +70,7 @@ impl Lane {
 
     /// The row in force of a started lane that breaks no rule, but that it may not be
     /// safe.
+    #[inline(always)]
     pub(super) fn lawful_row(&self) -> Option<Row> {
         let bounded = self.started && self.count <= PLACES as u64 && self.tables.are_sound();
         let row = self.road.row(&self.tables.in_force).ok();
@@ -76,6 +78,7 @@ impl Lane {
     }
 
     /// Each carrier is lawful and has a number of its own.
+    #[inline(always)]
     fn has_lawful_carriers(&self) -> bool {
         let (carriers, mut met) = (self.present(), Met::NONE);
         (0..carriers.len())
