@@ -29,13 +29,14 @@ use Rattle.history.specs.Begins.{Begins}
 use Rattle.history.specs.History.{Event, callsIn, Throughout, SurfaceChanges, NeverBroken}
 use Rattle.history.specs.Openings.{Openings}
 use Rattle.history.specs.Handovers.{Handovers}
+use Rattle.history.specs.Readings.{Reading}
 use Rattle.history.proofs.Answered.{of-lane, of-both, lent, left, gives-as, reads-as, lends, lends-both, Exact, surface-puts}
 use Rattle.console.specs.declared.Stepped.{Stepped}
 use Rattle.console.specs.History.{blockRun}
 use Rattle.console.proofs.Answered.{every-step}
 use Rattle.host.specs.Gaps.{gapGiven}
 use Rattle.host.proofs.Calls.{HostCall, starts, loads, enters, leaves, surfaces, cycles, reads, finds, lists, hands, steps, eventsMade, stepAnswer, Cycles, HostDid, HostRan, nothing-yet, call, allMade, Emptied, TookOver}
-use Rattle.host.proofs.History.{host-history, host-history-from-empty, host-surface-changes, host-openings, host-handovers, host-history-from-text, host-calls, host-never-broken}
+use Rattle.host.proofs.History.{host-history, host-history-from-empty, host-surface-changes, host-openings, host-handovers, host-history-from-text, host-readings, host-taken-for-good, host-calls, host-never-broken}
 use Rattle.host.proofs.rondavitse_empty.Reads as empty-reads
 use Rattle.host.proofs.rondavitse_start.Reads as start-reads
 use Rattle.host.proofs.rondavitse_load.Reads as load-reads
@@ -190,14 +191,16 @@ every-host-list-from-empty xs =
     let h = every-host-list emptyWords xs in
     (e, (h, host-history-from-empty emptyWords e xs (h .events) (h .last) (h .ran)))
 
--- and from a lane that `rondavitse_take_over` gives of a text, which it does of every one
+-- and from a lane that `rondavitse_take_over` gives of a text, which it does of every one: what is said of its number and its lane holds, and where it
+-- is accepted no call gives 21
 pub every-host-list-from-text : (text : List ℕ) (xs : List HostCall)
-    → (l : Words) × TookOver text (takeOverNo text) l × ((h : HostHistoryOf l xs) × Throughout (begunFrom text) (h .events))
+    → (l : Words) × TookOver text (takeOverNo text) l × Reading text (takeOverNo text) l × ((h : HostHistoryOf l xs) × Throughout (begunFrom text) (h .events) × (takeOverNo text ≡ 0 → NeverBroken true (h .events)))
 every-host-list-from-text text xs =
     let some = takes-some text in
-    let t : TookOver text (takeOverNo text) (some .0) = record { κs = ([], ([], tt)); lane = lent []; read = lent text; text-is = refl; says = some .1 } in
-    let h = every-host-list (some .0) xs in
-    (some .0, t, (h, host-history-from-text text (takeOverNo text) (some .0) t xs (h .events) (h .last) (h .ran)))
+    let l = some .0 in
+    let t : TookOver text (takeOverNo text) l = record { κs = ([], ([], tt)); lane = lent []; read = lent text; text-is = refl; says = some .1 } in
+    let h = every-host-list l xs in
+    (l, t, host-readings text (takeOverNo text) l t, (h, host-history-from-text text (takeOverNo text) l t xs (h .events) (h .last) (h .ran), λ z. host-taken-for-good text l (subst (λ (n : ℕ). TookOver text n l) z t) xs (h .events) (h .last) (h .ran)))
 
 -- each exported call may stand in a list, with any arguments
 pub each-host-call : (l : Words) (road : Road) (first : ℕ) (table : List ℕ) (c : Carrier) (number code count head : ℕ) (newcomer : Newcomer) (sorts values buffer input : List ℕ) (at : ℕ)
