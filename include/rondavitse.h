@@ -95,7 +95,7 @@ static inline const char *rondavitse_words(uint32_t no) {
     case RONDAVITSE_SPEED_ABOVE_LIMIT: return "speed above the limit";
     case RONDAVITSE_FLOAT_OUT_OF_RANGE: return "a float outside its range";
     case RONDAVITSE_TEXT_MALFORMED: return "malformed text";
-    case RONDAVITSE_TEXT_BUFFER_TOO_SHORT: return "lane text longer than the buffer";
+    case RONDAVITSE_TEXT_BUFFER_TOO_SHORT: return "lane or handover text longer than the buffer";
     case RONDAVITSE_INPUT_TOO_LONG: return "program input above 65,536 bytes";
     case RONDAVITSE_WISH_UNKNOWN: return "a wish of no sort that exists, or units past 16 bits";
     case RONDAVITSE_WISHES_TOO_FEW: return "an array of wishes shorter than the count";

@@ -1,4 +1,5 @@
--- What a reader may take from `history`: at each call of the list, and in plain words; and that a lane once started never breaks a rule.
+-- What a reader may take from `history`: at each call of the list, and in plain words; that a lane once started, or taken over, never breaks a rule, and
+-- that who takes a handover's text over goes on with its book.
 use mathlib.Core.Path.{_≡_, refl, sym, ap, _∙_, subst}
 use mathlib.Core.Bool.{Bool, true, false, not, _&&_, _||_, cond, true≢false}
 use mathlib.Core.List.{List, [], _∷_, _++_}
@@ -194,7 +195,7 @@ trimmed-by-the-row b c w z e = rw e refl
 -- ---- of lists
 
 -- for every list of calls, however it begins, cycles with any sixty-four wishes among them, there is a history, and what is claimed holds
--- throughout it, and of its changes of surface and its openings
+-- throughout it, and what is said of its changes of surface, its openings and its handovers
 pub every-list-claimed : (l : Words) (b : Book) → Begins l b → (xs : List Call)
     → ((i count : ℕ) (ws : List Wish) → getD xs i (read-call 0) ≡ cycle-call count ws → length ws ≡ 64)
     → (es : List Event) × (d : Words) × Ran l es d × (callsIn es ≡ xs) × Throughout b es × SurfaceChanges l b es × Openings l b es × Handovers l b es

@@ -77,6 +77,6 @@ pub chain-history : (l : Words) (b : Book) → Begins l b → (es : List Event) 
 chain-history l b how es d r = throughout b (begins-agree how) r
 
 -- THE THEOREM: "For every list of calls from an empty lane, started or not, refused calls included, each working on the lane that the
--- last one left", whatever the empty lane's other words are: how a list begins is `Begins`
+-- last one left", whatever the empty lane's other words are; document 02, T-08: or from what a reading gave. How a list begins is `Begins`.
 pub history : (l : Words) (b : Book) → Begins l b → (es : List Event) (d : Words) → Ran l es d → Throughout b es
 history l b how es d r = chain-history l b how es d (ran-gives r)

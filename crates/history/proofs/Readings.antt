@@ -8,9 +8,9 @@ use Rattle.lane.specs.Limits.{longestHandover}
 use Rattle.lane.specs.State.{State}
 use Rattle.lane.specs.Layout.{Words, stateOf}
 use Rattle.lane.specs.Rules.{laneNo}
-use Rattle.lane.specs.Handover.{handoverText, takeOverNo, TakesOver}
+use Rattle.lane.specs.Handover.{handoverText, takeOverNo, TakesOver, InForm}
 use Rattle.lane.proofs.Laws.{carrier-lines}
-use Rattle.lane.proofs.HandoverLaws.{InForm, accepted-form, written-again, taken-lane, one-or-none, one-lane, one-text, handover-lines, row-lines, row-by-row, lane-lines, front-to-back, handover-most}
+use Rattle.lane.proofs.HandoverLaws.{accepted-form, written-again, taken-lane, one-or-none, one-lane, one-text, handover-lines, row-lines, row-by-row, lane-lines, front-to-back, handover-most}
 use Rattle.lane.proofs.HandoverNumbers.{carrier-36, twice-36, road-36, nothing-else-36, unsafe-37, lane-numbers}
 use Rattle.history.specs.Readings.{TextOf, NumberOf, Reading, Spelt}
 

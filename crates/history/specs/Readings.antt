@@ -21,8 +21,7 @@ use Rattle.lane.specs.Rules.{broken}
 use Rattle.lane.specs.Table.{rowText, tableText}
 use Rattle.lane.specs.Calls.{none}
 use Rattle.lane.specs.Listing.{carrierText, carriersText, laneText}
-use Rattle.lane.specs.Handover.{TakesOver}
-use Rattle.lane.proofs.HandoverLaws.{InForm}
+use Rattle.lane.specs.Handover.{TakesOver, InForm}
 
 -- "the eight rows in force and those for the next start, each as table text, then `surface`, `end`, `limit`, `cycle`, then the lane text": the text
 -- of a lane, line by line

@@ -1,4 +1,4 @@
-// The supervisor for hosts in C, C++ or Rust: each call of the lane under a plain name, on a lane that the host lends.
+// The supervisor for hosts in C, C++, Rust or Python: each call of the lane under a plain name, on a lane that the host lends.
 ghost use mathlib.Core.Path.{_≡_};
 ghost use mathlib.Core.Bool.{false};
 ghost use mathlib.Core.List.{[]};

@@ -279,7 +279,7 @@ pub surface-accepted : (s : State) (code : ℕ) → surfaceNo s code ≡ 0
 unfolding surfacedState
 surface-accepted s code e = accepted-changes (surface-call code) s e
 
--- read, opening and lane text change nothing, refused or not
+-- read, opening, lane text and handover change nothing, refused or not
 unchanging : (x : Call) (s : State) → acceptedState x s ≡ s → callState x s ≡ s
 unfolding callState
 unchanging x s e = rw e (same (eqb (callNo x s) 0))

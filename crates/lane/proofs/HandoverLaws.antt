@@ -3,7 +3,7 @@ use mathlib.Core.Path.{_≡_, refl, sym, ap, ap₂, subst, _∙_}
 use mathlib.Core.Bool.{Bool, true, false, cond}
 use mathlib.Core.List.{List, [], _∷_, _++_, append-assoc, append-nil}
 use mathlib.Core.Logic.{_⊎_, inl, inr}
-use Prim.Native.Nat.{ℕ, _≤_, _<_}
+use Prim.Native.Nat.{ℕ, _≤_}
 use native.Mathlib.Omega.{arith}
 use borrow.Author.Tests.{eqb-true, eqb-false}
 use lib.Dec.{eqb, ltb}
@@ -18,40 +18,24 @@ use Rattle.lane.specs.declared.Carrier.{Carrier}
 use Rattle.lane.specs.declared.Road.{Road}
 use Rattle.lane.specs.declared.Row.{Row}
 use Rattle.lane.specs.Limits.{lastCycle, longestHandover}
-use Rattle.lane.specs.Surface.{rowOf}
 use Rattle.lane.specs.State.{State}
 use Rattle.lane.specs.Layout.{Words, stateOf, emptyWords}
 use Rattle.lane.specs.Rules.{broken, laneNo}
-use Rattle.lane.specs.Table.{rowText, tableText, rowsIn}
+use Rattle.lane.specs.Table.{RowFits, rowText, tableText, rowsIn}
 use Rattle.lane.specs.Calls.{none}
-use Rattle.lane.specs.Listing.{carrierText, carriersText, laneText, laneTextIn}
-use Rattle.lane.specs.Handover.{roadKeys, roadNumbers, roadText, handoverText, handed, handoverIn, takeOverNo, takenOver, TakesOver, handoverNo, handoverBytes}
+use Rattle.lane.specs.Listing.{FitsLines, carrierText, carriersText, laneText, laneTextIn}
+use Rattle.lane.specs.Handover.{roadKeys, roadNumbers, roadText, handoverText, handed, handoverIn, takeOverNo, takenOver, TakesOver, InForm, handoverNo, handoverBytes}
 use Rattle.lane.specs.Call.{handover-call, bare, told, callNo, callAnswer, Kept}
 use Rattle.lane.proofs.checks.Surfaces.{SoundRow, sound-at}
 use Rattle.lane.proofs.checks.Records.{wordsFor, words-for, table-eight}
 use Rattle.lane.proofs.checks.Soundness.{SoundRoad, Fit, sound, fit-at, lane-no-zero}
-use Rattle.lane.proofs.checks.TableTexts.{RowFits, rows-again, rows-taken, table-length}
+use Rattle.lane.proofs.checks.TableTexts.{rows-again, rows-taken, table-length}
 use Rattle.lane.proofs.calls.Answers.{refused-answers, accepted-answers}
 use Rattle.lane.proofs.calls.Texts.{text-most}
-use Rattle.lane.proofs.calls.Read.{FitsLines, lane-again, then-taken, lane-taken}
+use Rattle.lane.proofs.calls.Read.{lane-again, then-taken, lane-taken}
 use Rattle.lane.proofs.calls.Handing.{reads-none, reads-one, one-taken, handover-length, refused}
 
 -- ---- one text of one lane
-
--- what the lines of a text can hold: a started lane of eight rows in each table and at most 64 carriers, each number within its field's width
-pub record InForm (s : State) : Type 0 where
-  pub started : s .started ≡ true
-  pub counted : s .count ≡ length (s .carriers)
-  pub few : length (s .carriers) ≤ 64
-  pub in-force : length (s .tables .inForce) ≡ 8
-  pub in-force-fits : (i : ℕ) → i < 8 → RowFits (rowOf (s .tables .inForce) i)
-  pub next : length (s .tables .next) ≡ 8
-  pub next-fits : (i : ℕ) → i < 8 → RowFits (rowOf (s .tables .next) i)
-  pub surface : s .road .surface ≤ 4294967295
-  pub end : s .road .end ≤ 4294967295
-  pub limit : s .road .limit ≤ 4294967295
-  pub cycle : s .cycle ≤ 18446744073709551615
-  pub carriers : (i : ℕ) → i < length (s .carriers) → FitsLines (getD (s .carriers) i none)
 
 -- the text of each is read as that lane
 pub form-read : (s : State) → InForm s → handoverIn (handoverText s) ≡ got s []
@@ -117,7 +101,7 @@ form-taken text s rest e =
       same,
     )
 
--- a lane that breaks no rule is of that form, and every cycle number is
+-- a lane that breaks no rule is of that form, where it counts its carriers, has eight rows in each table and a cycle number of 64 bits
 pub unbroken-form : (s : State) → broken s ≡ false → s .count ≡ length (s .carriers) → length (s .tables .inForce) ≡ 8 → length (s .tables .next) ≡ 8
     → s .cycle ≤ lastCycle → InForm s
 unbroken-form s b counted inForce next cycle =
@@ -256,7 +240,7 @@ pub front-to-back : (c : Carrier) (cs : List Carrier) → (carriersText [] ≡ [
 unfolding carriersText
 front-to-back c cs = (refl, refl)
 
--- no text of a lane that breaks no rule is longer than the longest
+-- no text of a lane that breaks no rule, with a cycle number of 64 bits, is longer than the longest
 pub handover-most : (l : Words) → broken (stateOf l) ≡ false → stateOf l .cycle ≤ lastCycle → length (handoverText (stateOf l)) ≤ longestHandover
 handover-most l b cycle =
     let s = stateOf l in

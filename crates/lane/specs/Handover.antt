@@ -1,6 +1,6 @@
 -- Document 02, T-08: "Write the whole lane as `key=value` lines in a fixed order: the eight rows in force and those for the next start, each as table
 -- text, then `surface`, `end`, `limit`, `cycle`, then the lane text."
-use Prim.Native.Nat.{ℕ, _<_}
+use Prim.Native.Nat.{ℕ, _≤_, _<_}
 use mathlib.Core.Path.{_≡_}
 use mathlib.Core.Bool.{true}
 use mathlib.Core.List.{List, [], _∷_, _++_}
@@ -9,12 +9,14 @@ use Rattle.text.specs.Ascii.{ascii}
 use Rattle.text.specs.Groups.{Key, groupText, Got, got, missing, andThen, whole, groupIn}
 use Rattle.lane.specs.declared.Carrier.{Carrier}
 use Rattle.lane.specs.declared.Row.{Row}
+use Rattle.lane.specs.Limits.{surfaces, mostCarriers}
+use Rattle.lane.specs.Surface.{rowOf}
 use Rattle.lane.specs.State.{State}
 use Rattle.lane.specs.Layout.{Words, stateOf, emptyWords}
 use Rattle.lane.specs.Rules.{laneNo}
-use Rattle.lane.specs.Table.{tableText, rowsIn}
-use Rattle.lane.specs.Calls.{ifAccepted}
-use Rattle.lane.specs.Listing.{laneText, laneTextIn, writtenNo, atStart}
+use Rattle.lane.specs.Table.{RowFits, tableText, rowsIn}
+use Rattle.lane.specs.Calls.{none, ifAccepted}
+use Rattle.lane.specs.Listing.{FitsLines, laneText, laneTextIn, writtenNo, atStart}
 
 -- ---- writing
 
@@ -93,3 +95,20 @@ pub record TakesOver (text : List ℕ) (number : ℕ) (l : Words) : Type 0 where
   pub state : stateOf l ≡ takenOver text
   -- every word is that of the empty lane
   pub refused : 0 < number → l ≡ emptyWords
+
+-- ---- one text of one lane
+
+-- what the lines of a text can hold: a started lane of eight rows in each table and at most 64 carriers, each number within its field's width
+pub record InForm (s : State) : Type 0 where
+  pub started : s .started ≡ true
+  pub counted : s .count ≡ length (s .carriers)
+  pub few : length (s .carriers) ≤ mostCarriers
+  pub in-force : length (s .tables .inForce) ≡ surfaces
+  pub in-force-fits : (i : ℕ) → i < surfaces → RowFits (rowOf (s .tables .inForce) i)
+  pub next : length (s .tables .next) ≡ surfaces
+  pub next-fits : (i : ℕ) → i < surfaces → RowFits (rowOf (s .tables .next) i)
+  pub surface : s .road .surface ≤ surfaceKey .most
+  pub end : s .road .end ≤ endKey .most
+  pub limit : s .road .limit ≤ limitKey .most
+  pub cycle : s .cycle ≤ cycleKey .most
+  pub carriers : (i : ℕ) → i < length (s .carriers) → FitsLines (getD (s .carriers) i none)

@@ -1,5 +1,5 @@
 -- Document 01, "Calls" and "Call texts": the lane text, "what `show` prints from `cars=` on".
-use Prim.Native.Nat.{ℕ}
+use Prim.Native.Nat.{ℕ, _≤_}
 use mathlib.Core.Bool.{cond}
 use mathlib.Core.List.{List, [], _∷_, _++_, map}
 use lib.Dec.{ltb}
@@ -59,6 +59,14 @@ carrierKeys =
 
 abbrev pub carrierNumbers : Carrier → List ℕ
 carrierNumbers c = c .number ∷ c .position ∷ c .speed ∷ c .length ∷ c .rate ∷ []
+
+-- a carrier whose numbers they can hold
+pub record FitsLines (c : Carrier) : Type 0 where
+  pub number : c .number ≤ carMost
+  pub position : c .position ≤ atMost
+  pub speed : c .speed ≤ speedMost
+  pub long : c .length ≤ lengthMost
+  pub rate : c .rate ≤ brakeMost
 
 unfoldable pub carrierText : Carrier → List ℕ
 carrierText c = groupText carrierKeys (carrierNumbers c)

@@ -1,5 +1,5 @@
 -- Document 02, T-01: "They load eight rows of three numbers (b, B, A), given as text of 24 lines `b=`, `B=`, `A=` row by row."
-use Prim.Native.Nat.{ℕ}
+use Prim.Native.Nat.{ℕ, _≤_}
 use mathlib.Core.Bool.{Bool, true, _&&_, cond}
 use mathlib.Core.List.{List, [], _∷_, _++_, map}
 use lib.Dec.{ltb}
@@ -23,6 +23,10 @@ rowKeys =
     ∷ record { name = ascii "B="; most = numberMost }
     ∷ record { name = ascii "A="; most = numberMost }
     ∷ []
+
+-- a row whose numbers they can hold
+abbrev pub RowFits : Row → Type 0
+RowFits r = (r .guaranteed ≤ numberMost) × (r .hardest ≤ numberMost) × (r .most ≤ numberMost)
 
 -- the text of rows: the reader takes that of eight sound ones for them, by the law `table-text`, and no other text for any, by `table-taken`
 unfoldable pub rowText : Row → List ℕ

@@ -49,7 +49,7 @@ const WORDS: [(Refusal, &str); 28] = [
     (SpeedAboveLimit, "speed above the limit"),
     (FloatOutOfRange, "a float outside its range"),
     (TextMalformed, "malformed text"),
-    (TextBufferTooShort, "lane text longer than the buffer"),
+    (TextBufferTooShort, "lane or handover text longer than the buffer"),
     (InputTooLong, "program input above 65,536 bytes"),
     (
         WishUnknown,

@@ -17,7 +17,7 @@ use Rattle.lane.specs.declared.Carrier.{Carrier}
 use Rattle.lane.specs.State.{State}
 use Rattle.lane.specs.Layout.{recordIn}
 use Rattle.lane.specs.Calls.{none}
-use Rattle.lane.specs.Listing.{carrierKeys, carrierNumbers, carrierText, carriersText, carsKey, laneText, carriersIn, laneTextIn}
+use Rattle.lane.specs.Listing.{carrierKeys, carrierNumbers, carrierText, carriersText, carsKey, laneText, carriersIn, laneTextIn, FitsLines}
 
 -- ---- carriers and their numbers
 
@@ -42,14 +42,6 @@ numbers-of-one (a ∷ b ∷ c ∷ d ∷ e ∷ f ∷ g) h = absurd (h .1 .1 .1 .1
 numbers-of : (gs : List (List ℕ)) → AllHeld carrierKeys gs → map carrierNumbers (map recordIn gs) ≡ gs
 numbers-of [] h = refl
 numbers-of (g ∷ gs) h = rw (numbers-of-one g (h .0), numbers-of gs (h .1)) refl
-
--- its lines hold each of its numbers
-pub record FitsLines (c : Carrier) : Type 0 where
-  pub number : c .number ≤ 65535
-  pub position : c .position ≤ 4294967295
-  pub speed : c .speed ≤ 4294967295
-  pub long : c .length ≤ 4294967295
-  pub rate : c .rate ≤ 4294967295
 
 all-held : (cs : List Carrier) → ((i : ℕ) → i < length cs → FitsLines (getD cs i none)) → AllHeld carrierKeys (map carrierNumbers cs)
 all-held [] h = tt

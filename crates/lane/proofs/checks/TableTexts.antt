@@ -16,17 +16,13 @@ use Rattle.text.proofs.GroupLaws.{Held, AllHeld, groups-again, groups-taken, go
 use Rattle.lane.specs.declared.Row.{Row}
 use Rattle.lane.specs.Surface.{row, rowOf, unsound}
 use Rattle.lane.specs.Layout.{surfaceIn}
-use Rattle.lane.specs.Table.{numberMost, rowKeys, rowText, tableText, rowsIn, tableIn, badTable, rowsLoaded}
+use Rattle.lane.specs.Table.{rowKeys, RowFits, rowText, tableText, rowsIn, tableIn, badTable, rowsLoaded}
 use Rattle.lane.proofs.checks.Surfaces.{SoundRow, sound-at}
 
 -- ---- rows are groups of three numbers
 
 abbrev numbersOf : Row → List ℕ
 numbersOf r = r .guaranteed ∷ r .hardest ∷ r .most ∷ []
-
--- each of which a line holds
-abbrev pub RowFits : Row → Type 0
-RowFits r = (r .guaranteed ≤ numberMost) × (r .hardest ≤ numberMost) × (r .most ≤ numberMost)
 
 groups-of : (rs : List Row) → tableText rs ≡ groupsText rowKeys (map numbersOf rs)
 unfolding rowText tableText
