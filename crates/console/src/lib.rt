@@ -1,4 +1,6 @@
 // The program's text handling: blocks of lines read, run on a lent lane, and their answers printed into a lent buffer.
+#![tactic(auto)]
+
 mod blocks;
 mod reading;
 mod runs;

@@ -1,4 +1,5 @@
 // Two carriers on plain numbers: how one moves in a cycle, where it comes to rest, and whether the one behind stays behind.
+#![tactic(auto)]
 
 ghost use Rattle.std.specs.Prelude.{◌≡◌, ◌≤◌, pos, ◌-ℤ◌};
 ghost use Rattle.headway.specs.Motion.{position_after};

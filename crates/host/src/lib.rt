@@ -1,4 +1,6 @@
 // The supervisor for hosts in C, C++, Rust or Python: each call of the lane under a plain name, on a lane that the host lends.
+#![tactic(auto)]
+
 ghost use Rattle.std.specs.Prelude.{◌≡◌, false, [], drop};
 ghost use Rattle.std.specs.Float.Ieee.Exact.{HasValue};
 ghost use Rattle.lane.specs.Layout.{state_of, with_code, empty_words};

@@ -1,6 +1,8 @@
 // The lane's calls: load, start, enter, leave, surface, cycle, read, find an opening, lane text, handover; `take_over`, by which a lane begins from a
 // text; and `find`, by which they look a carrier number up. A lane is lent and changed in place. `no` is 0 where a call is accepted, else the number of
 // its refusal, with every value zero and every word of the lane as it was, but for a refused `take_over`, which leaves the empty lane.
+#![tactic(auto)]
+
 ghost use Rattle.std.specs.Prelude.{◌≡◌, false, []};
 ghost use Rattle.std.specs.Float.Ieee.Exact.{HasValue};
 ghost use Rattle.lane.specs.Layout.{state_of, with_code, empty_words};

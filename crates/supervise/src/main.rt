@@ -1,4 +1,6 @@
 // Standard input to standard output: the input is read whole, and then each block's answer is written before the next block is run.
+#![tactic(auto)]
+
 mod pipe;
 
 // The blocks in turn, until one stops the program, or the output takes no more. A step that does not stop takes at least one byte.

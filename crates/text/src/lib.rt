@@ -1,4 +1,6 @@
 // Texts of `key=value` lines, in ASCII.
+#![tactic(auto)]
+
 mod fields;
 mod lines;
 mod numbers;

@@ -1,4 +1,6 @@
 // Wishes as units, their trimming, and what is read of a carrier, in metres.
+#![tactic(auto)]
+
 ghost use Rattle.std.specs.Prelude.{◌≡◌, true, false, cond, ℕ, ◌+◌, ◌^◌, ◌≤◌, ◌<◌, min, pos, negsuc};
 ghost use Rattle.std.specs.Float.{fin, binary32};
 ghost use Rattle.std.specs.Float.Ieee.{lt, of_bits};

@@ -1,0 +1,12 @@
+-- `text::numbers::digit` meets its contract: its branch is the definition's test.
+use borrow.Author.Tests.{lt-ltb, le-ltb}
+use Rattle.text.specs.Numbers.{digit}
+use Rattle.text.proofs.numbers.digit.Goals as goal
+
+pub returns-then-d-lt10 : goal.returns-then-d-lt10
+unfolding digit
+returns-then-d-lt10 c = rw (lt-ltb _ 10 c.if-d-lt10.true)
+
+pub returns-else-d-lt10 : goal.returns-else-d-lt10
+unfolding digit
+returns-else-d-lt10 c = rw (le-ltb _ 10 c.if-d-lt10.false)
