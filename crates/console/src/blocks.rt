@@ -108,7 +108,7 @@ fn cycle_block(l: &mut Lane, input: &[u8], at: usize, first: usize, out: &mut [u
 }
 
 // What a `call=` line begins.
-#[derive(Drop)]
+#[derive(Clone, Copy)]
 pub(crate) enum Kind {
     Start,
     Enter,

@@ -21,7 +21,7 @@ pub const ANSWER_SPACE: usize = 4096;
 // The place after the block, the bytes put into the buffer, the number by which the step itself is refused, or 0, and whether the program
 // stops there. A refused block's number is in its answer: the step has then done what it is for.
 #[repr(C)]
-#[derive(Drop)]
+#[derive(Clone, Copy)]
 pub struct Stepped {
     pub next: usize,
     pub written: usize,

@@ -8,14 +8,14 @@ use text::{Number, Signed};
 use wish::Wish;
 
 // What a line holds: a wish, or none.
-#[derive(Drop)]
+#[derive(Clone, Copy)]
 pub(crate) enum Want {
     Wanted(Wish),
     Nothing,
 }
 
 // Whether a line holds a wish, the wish, hold where there is none, and the place after the line.
-#[derive(Drop)]
+#[derive(Clone, Copy)]
 pub(crate) struct Asked {
     pub(crate) ok: bool,
     pub(crate) wish: Wish,

@@ -7,14 +7,14 @@ ghost use Rattle.headway.specs.Stopping.{braking as braking_of, stopping_distanc
 ghost use Rattle.headway.specs.Totals.{stop_of, rest_of, moved_of, safe_of, rests_below as rests_below_of, passes_of};
 
 // The stopping distance; Never at a rate of 0.
-#[derive(Drop)]
+#[derive(Clone, Copy)]
 pub enum Stop {
     Within(u64),
     Never,
 }
 
 // Position and speed after a cycle; Outside where the speed would be negative or past 32 bits.
-#[derive(Drop)]
+#[derive(Clone, Copy)]
 pub enum Moved {
     To(u64, u32),
     Outside,

@@ -10,7 +10,7 @@ use crate::{Lane, layout, motion};
 use wish::Wish;
 
 // A wish made of numbers, or none.
-#[derive(Drop)]
+#[derive(Clone, Copy)]
 pub(crate) enum Made {
     Of(Wish),
     Unknown,

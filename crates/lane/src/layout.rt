@@ -38,7 +38,7 @@ pub(crate) fn clear(l: &mut Lane)
 }
 
 // What the first row holds.
-#[derive(Drop)]
+#[derive(Clone, Copy)]
 pub(crate) struct Figures {
     pub(crate) started: bool,
     pub(crate) road: Road,

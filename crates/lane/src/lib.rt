@@ -84,7 +84,7 @@ pub type Table = [[u64; 3]; SURFACES];
 // The position is that of the front; the tail is the length behind it. The rate is its own: it is
 // sure to brake at that or at the row's, whichever is smaller.
 #[repr(C)]
-#[derive(Drop)]
+#[derive(Clone, Copy)]
 pub struct Carrier {
     pub number: u64,
     pub position: u64,
@@ -95,7 +95,7 @@ pub struct Carrier {
 
 // What is known of a newcomer before it has a number and a place.
 #[repr(C)]
-#[derive(Drop)]
+#[derive(Clone, Copy)]
 pub struct Newcomer {
     pub speed: u64,
     pub length: u64,
@@ -103,7 +103,7 @@ pub struct Newcomer {
 }
 
 // Where a newcomer would enter: directly behind the carrier of a number, or ahead of all.
-#[derive(Drop)]
+#[derive(Clone, Copy)]
 pub enum Gap {
     Behind(u64),
     AheadOfAll,
@@ -111,7 +111,7 @@ pub enum Gap {
 
 // What a start gives of the road: its surface code, the lane's end and the speed limit.
 #[repr(C)]
-#[derive(Drop)]
+#[derive(Clone, Copy)]
 pub struct Road {
     pub surface: u64,
     pub end: u64,
@@ -119,7 +119,7 @@ pub struct Road {
 }
 
 // A surface row: guaranteed braking, hardest braking, most acceleration.
-#[derive(Drop)]
+#[derive(Clone, Copy)]
 pub struct Row {
     pub guaranteed: u32,
     pub hardest: u32,
@@ -127,21 +127,21 @@ pub struct Row {
 }
 
 // What a carrier does in a cycle: whether its wish is replaced, and what is driven.
-#[derive(Drop)]
+#[derive(Clone, Copy)]
 pub struct Drive {
     pub replaced: bool,
     pub acceleration: i64,
 }
 
 #[repr(C)]
-#[derive(Drop)]
+#[derive(Clone, Copy)]
 pub struct Entered {
     pub no: u32,
     pub place: usize,
 }
 
 #[repr(C)]
-#[derive(Drop)]
+#[derive(Clone, Copy)]
 pub struct Cycled {
     pub no: u32,
     pub word: u64,
@@ -150,14 +150,14 @@ pub struct Cycled {
 }
 
 #[repr(C)]
-#[derive(Drop)]
+#[derive(Clone, Copy)]
 pub struct Listed {
     pub no: u32,
     pub length: usize,
 }
 
 #[repr(C)]
-#[derive(Drop)]
+#[derive(Clone, Copy)]
 pub struct ReadOut {
     pub no: u32,
     pub reading: Reading,
@@ -165,7 +165,7 @@ pub struct ReadOut {
 
 // The lowest and the highest position of an opening; both 0 where none exists.
 #[repr(C)]
-#[derive(Drop)]
+#[derive(Clone, Copy)]
 pub struct Opening {
     pub no: u32,
     pub exists: bool,

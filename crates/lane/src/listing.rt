@@ -81,7 +81,7 @@ pub(crate) fn put_text(l: &Lane, out: &mut [u8], at: usize) -> usize
 }
 
 // Whether a carrier's lines are there, the carrier, and the place after them; where they are not, any place.
-#[derive(Drop)]
+#[derive(Clone, Copy)]
 pub(crate) struct CarrierRead {
     pub(crate) ok: bool,
     pub(crate) carrier: Carrier,

@@ -7,14 +7,14 @@ ghost use Rattle.lane.specs.Lookup.{lookup, RestsOn};
 
 use crate::{Lane, MOST_CARRIERS, layout};
 
-#[derive(Drop)]
+#[derive(Clone, Copy)]
 pub enum Found {
     At(usize),
     Absent,
 }
 
 // Whether and where a number stands, and how many records were looked at for it.
-#[derive(Drop)]
+#[derive(Clone, Copy)]
 pub struct Lookup {
     pub found: Found,
     pub looked: usize,

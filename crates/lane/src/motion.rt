@@ -147,7 +147,7 @@ fn marked(word: u64, i: usize, flag: bool) -> u64
 }
 
 // How many carriers are left, and the word.
-#[derive(Drop)]
+#[derive(Clone, Copy)]
 pub(crate) struct Left {
     pub(crate) count: usize,
     pub(crate) word: u64,

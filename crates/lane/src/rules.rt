@@ -256,7 +256,7 @@ pub(crate) fn breaks_rule(l: &Lane) -> bool
 }
 
 // A check's number, 0 where all are passed, and the place that the call is about.
-#[derive(Drop)]
+#[derive(Clone, Copy)]
 pub(crate) struct Checked {
     pub(crate) no: u32,
     pub(crate) place: usize,

@@ -64,14 +64,14 @@ pub(crate) fn put_text(l: &Lane, table: usize, out: &mut [u8], at: usize) -> usi
 }
 
 // Whether lines are there, and the place after them; where they are not, any place.
-#[derive(Drop)]
+#[derive(Clone, Copy)]
 pub(crate) struct Lines {
     pub(crate) ok: bool,
     pub(crate) next: usize,
 }
 
 // The same of a row, with its numbers.
-#[derive(Drop)]
+#[derive(Clone, Copy)]
 pub(crate) struct RowRead {
     pub(crate) ok: bool,
     pub(crate) row: [u64; 3],

@@ -58,7 +58,7 @@ pub(crate) fn put_text(l: &Lane, out: &mut [u8]) -> usize
 }
 
 // Whether the lines of the road and of the cycle number are there, what they say, and the place after them.
-#[derive(Drop)]
+#[derive(Clone, Copy)]
 pub(crate) struct RoadRead {
     pub(crate) ok: bool,
     pub(crate) road: Road,

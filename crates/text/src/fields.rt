@@ -8,14 +8,14 @@ use crate::numbers::{Number, read_number};
 const LONGEST_LINE: usize = 64;
 
 // Whether a line is there, and the place after it, or the place asked for where there is none.
-#[derive(Drop)]
+#[derive(Clone, Copy)]
 pub struct Line {
     pub ok: bool,
     pub next: usize,
 }
 
 // The same of a line that holds a number, with the number, or 0 where there is none.
-#[derive(Drop)]
+#[derive(Clone, Copy)]
 pub struct Field {
     pub ok: bool,
     pub value: u64,

@@ -5,13 +5,13 @@ ghost use Rattle.text.specs.Lines.{written};
 ghost use Rattle.text.specs.Fields.{digit_in as digit_in_of, are_digits, number_spelt, number_in, signed_in, bits_in};
 ghost use Rattle.text.specs.declared.numbers.Number.TheVariants.{Is, Malformed};
 
-#[derive(Drop)]
+#[derive(Clone, Copy)]
 pub enum Number {
     Is(u64),
     Malformed,
 }
 
-#[derive(Drop)]
+#[derive(Clone, Copy)]
 pub enum Signed {
     Is(i16),
     Malformed,

@@ -12,7 +12,7 @@ ghost use Rattle.wish.specs.Trimming.{smaller_of, trimmed_to};
 ghost use Rattle.wish.specs.Reading.{reading_of as reading_in};
 
 // "A wish is of one of four sorts": whole units, an acceleration in m/s², a target speed in m/s, or hold.
-#[derive(Drop)]
+#[derive(Clone, Copy)]
 pub enum Wish {
     Units(i16),
     Acceleration(f32),
@@ -21,7 +21,7 @@ pub enum Wish {
 }
 
 // A wish in units, or a float outside its range.
-#[derive(Drop)]
+#[derive(Clone, Copy)]
 pub enum Converted {
     Units(i64),
     Outside,
@@ -29,7 +29,7 @@ pub enum Converted {
 
 // Position in metres and speed in m/s.
 #[repr(C)]
-#[derive(Drop)]
+#[derive(Clone, Copy)]
 pub struct Reading {
     pub position: f64,
     pub speed: f64,
@@ -76,7 +76,7 @@ pub fn target_of(bits: u32) -> Wish
 }
 
 // A float as a fraction: digits / 2 ^ shift, negative where `negative` is true.
-#[derive(Drop)]
+#[derive(Clone, Copy)]
 struct Fraction {
     negative: bool,
     digits: u32,
