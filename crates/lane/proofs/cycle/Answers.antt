@@ -30,6 +30,5 @@ pub returns : goal.returns
 returns c =
     let a = c.args in
     let inside = c.if-convert.false in
-    let r = (c.run.ensures.no_value, c.run.ensures.word_value, c.run.ensures.replaced_value, c.run.ensures.l_after, c.run.ensures.l_after_2) in
-    has_run a.l.now a.count a.wishes (ready (goal.at.returns c).Else-no-ne0) c.run.new.0 c.run.result _ (sym c.convert.ensures.value ∙ inside) (c.convert.ensures.units_after inside)
-    r.0 r.1.0 r.1.1.0 r.1.1.1.0 r.1.1.1.1
+    has_run a.l.now a.count a.wishes (ready (goal.at.returns c).Else-no-ne0) c.run.new.l c.run.result _ (sym c.convert.ensures.value ∙ inside) (c.convert.ensures.units_after inside)
+    c.run.ensures.no_value c.run.ensures.word_value c.run.ensures.replaced_value c.run.ensures.l_after c.run.ensures.l_after_2

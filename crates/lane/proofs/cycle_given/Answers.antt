@@ -14,9 +14,6 @@ module _ (c : Else-no-ne0) where
   ready : ready_no (state_of c.args.l.now) c.args.count ≡ 0
   ready = sym c.check_ready-no.ensures ∙ c.if-no-ne0.false
 
--- and the wishes were looked at
-module _ (t : After-convert-unfit) where
-
 pub returns-then-no-ne0 : goal.returns-then-no-ne0
 returns-then-no-ne0 c =
     let a = c.args in
@@ -37,13 +34,12 @@ pub returns : goal.returns
 returns c =
     let fit = c.if-unfit-ne0.false in
     let a = c.args in
-    let r = (c.run.ensures.no_value, c.run.ensures.word_value, c.run.ensures.replaced_value, c.run.ensures.l_after, c.run.ensures.l_after_2) in
     let cs = take a.count (records_in a.l.now) in
     let wishes = wishes_given a.count a.sorts.now a.values.now in
     let all = given_take a.count a.sorts.now a.values.now in
     let known = fit_wishes (wishes_no a.count a.sorts.now a.values.now) (any_outside cs wishes) (sym c.convert-unfit.ensures.value ∙ fit) in
-    given_made a.l.now a.count a.sorts.now a.values.now c.run.result c.run.new.0 known.0
-    (has_run a.l.now a.count wishes (ready (goal.at.returns c).Else-no-ne0) c.run.new.0 c.run.result _
+    given_made a.l.now a.count a.sorts.now a.values.now c.run.result c.run.new.l known.0
+    (has_run a.l.now a.count wishes (ready (goal.at.returns c).Else-no-ne0) c.run.new.l c.run.result _
     (ap (any_outside cs) all ∙ known.1)
     (c.convert-unfit.ensures.units_after fit ∙ ap (wished_units cs) (sym all))
-    r.0 r.1.0 r.1.1.0 r.1.1.1.0 r.1.1.1.1)
+    c.run.ensures.no_value c.run.ensures.word_value c.run.ensures.replaced_value c.run.ensures.l_after c.run.ensures.l_after_2)

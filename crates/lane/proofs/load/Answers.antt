@@ -19,7 +19,7 @@ use Rattle.lane.proofs.load.Goals as goal
 module _ (k : After-load_refusal-no) where
   bad : bad_table (table_in k.args.text.now) ≡ not k.read-lines.result.ok || ltb k.read-lines.result.next (length k.args.text.now) || k.unsound.result
   bad =
-      bad_told k.args.text.now k.read-lines.result.ok k.read-lines.last.1.1.0 k.read-lines.result.next k.read-lines.ensures.text_value
+      bad_told k.args.text.now k.read-lines.result.ok k.read-lines.new.table k.read-lines.result.next k.read-lines.ensures.text_value
       ∙ ap (λ (b : Bool). not k.read-lines.result.ok || ltb k.read-lines.result.next (length k.args.text.now) || b) (sym k.unsound.ensures)
 
   number : k.load_refusal-no.result ≡ load_no (state_of k.args.l.now) k.args.text.now
@@ -36,8 +36,7 @@ returns c =
     let a = c.args in
     let r = c.read-lines in
     let z : load_no (state_of a.l.now) a.text.now ≡ 0 = sym (number (goal.at.returns c).After-load_refusal-no) ∙ c.if-no-ne0.false in
-    let rows = sym (rows_loaded_is a.text.now r.result.ok r.last.1.1.0 r.result.next r.ensures.0 (load_tells (state_of a.l.now) a.text.now z).good) in
-    let put = (c.put_next.ensures.l_unchanged, c.put_next.ensures.l_after, c.put_next.ensures.l_unchanged_2) in
-    gives_accepted (load_call a.text.now) a.l.now c.put_next.new.0 z
-    (ap₂ (λ (f : Figures) (t : Tables). state_with f t (records_in c.put_next.new.0)) put.0 (put.1.0 ∙ ap (λ (rs : List Row). record { in_force = (tables_in a.l.now).in_force; next = rs }) rows)
-    ∙ ap (state_with (figures_in a.l.now) (record { in_force = (tables_in a.l.now).in_force; next = rows_loaded (table_in a.text.now) })) put.1.1)
+    let rows = sym (rows_loaded_is a.text.now r.result.ok r.new.table r.result.next r.ensures.text_value (load_tells (state_of a.l.now) a.text.now z).good) in
+    gives_accepted (load_call a.text.now) a.l.now c.put_next.new.l z
+    (ap₂ (λ (f : Figures) (t : Tables). state_with f t (records_in c.put_next.new.l)) c.put_next.ensures.l_unchanged (c.put_next.ensures.l_after ∙ ap (λ (rs : List Row). record { in_force = (tables_in a.l.now).in_force; next = rs }) rows)
+    ∙ ap (state_with (figures_in a.l.now) (record { in_force = (tables_in a.l.now).in_force; next = rows_loaded (table_in a.text.now) })) c.put_next.ensures.l_unchanged_2)

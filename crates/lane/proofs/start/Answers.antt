@@ -16,4 +16,4 @@ returns c =
     let a = c.args in
     gives_accepted (start_call a.road a.first) a.l.now c.put_figures.new.l (sym c.start_refusal-no.ensures ∙ c.if-no-ne0.false)
     (ap₂ (λ (f : Figures) (t : Tables). state_with f t (records_in c.put_figures.new.l)) c.put_figures.ensures.l_after
-    (c.put_figures.ensures.l_unchanged.0 ∙ c.put_in_force.ensures.l_after.0))
+    (c.put_figures.ensures.l_unchanged ∙ c.put_in_force.ensures.l_after))

@@ -1,7 +1,6 @@
 -- `lane::given::any_unknown` meets its contract. The invariant: whether a wish is unknown goes by those that are still to be looked at.
 use mathlib.Core.Path.{◌≡◌, sym, ◌∙◌}
 use mathlib.Core.Bool.{Bool}
-use Prim.Native.Nat.{◌-◌}
 use native.Mathlib.Omega.{arith}
 use lib.ListN.{get_or}
 use Rattle.lane.specs.Given.{wish_made, is_unknown}

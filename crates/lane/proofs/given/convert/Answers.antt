@@ -1,7 +1,7 @@
 -- `lane::given::convert` meets its contract, as `lane::motion::convert`. The invariant says too that no wish so far is one that cannot be made.
 use mathlib.Core.Path.{◌≡◌, refl, sym, ap, ◌∙◌}
 use mathlib.Core.Bool.{Bool, true, false, cond, true≢false}
-use Prim.Native.Nat.{ℕ, ◌-◌, ◌≤◌}
+use Prim.Native.Nat.{ℕ, ◌≤◌}
 use native.Mathlib.Omega.{arith}
 use lib.ListN.{length, get_or, take}
 use Rattle.wish.specs.Units.{units_of}
@@ -37,14 +37,13 @@ module _ (u : After-convert_one) where
       ∙ ap (λ (w : Wish). units_of w v) (made_at u.args.sorts.now u.args.values.now u.loop-i.i (omega arith) (omega arith))
 
 -- a refusal by `unfit`, where one cannot be made or is outside its range
-module _ (k : After-is_unknown) where
+module _ (s : Start) where
   abbrev unknown : Bool
-  unknown = any_unknown (take k.args.count k.args.sorts.now) (take k.args.count k.args.values.now)
+  unknown = any_unknown (take s.args.count s.args.sorts.now) (take s.args.count s.args.values.now)
 
-  refused : (m : ℕ) → m ≡ cond unknown 11 7 → (unknown ≡ false → outside k.before.before.before.before.before.before.before.before.before.before.before.before ≡ true) → (m ≡ unfit_no (no k.before.before.before.before.before.before.before.before.before.before.before.before) (outside k.before.before.before.before.before.before.before.before.before.before.before.before)) × ¬ (m ≡ 0)
-  refused m e o =
-      let long = k.loop-i.invariant.0 in
-      unfit_is (no k.before.before.before.before.before.before.before.before.before.before.before.before) unknown (outside k.before.before.before.before.before.before.before.before.before.before.before.before) (by_sorts k.args.count k.args.sorts.now k.args.values.now long.0 long.1 unknown refl) m e o
+  refused : (long : (s.args.count ≤ length s.args.sorts.now) × (s.args.count ≤ length s.args.values.now)) (m : ℕ) → m ≡ cond unknown 11 7 → (unknown ≡ false → outside s ≡ true) → (m ≡ unfit_no (no s) (outside s)) × ¬ (m ≡ 0)
+  refused long m e o =
+      unfit_is (no s) unknown (outside s) (by_sorts s.args.count s.args.sorts.now s.args.values.now long.0 long.1 unknown refl) m e o
 
 pub returns-then-sorts-count : goal.returns-then-sorts-count
 returns-then-sorts-count c =
@@ -83,7 +82,7 @@ returns-then-is_unknown c =
     let a = c.args in
     let inv = c.loop-i.invariant in
     let here = unknown_here a.count a.sorts.now a.values.now inv.0.0 inv.0.1 c.loop-i.i inv.1.0 (omega arith) (told (goal.at.returns-then-is_unknown c).After-is_unknown _ c.if-is_unknown.true) in
-    let r = refused (goal.at.returns-then-is_unknown c).After-is_unknown c.unfit.result c.unfit.ensures (λ e. absurd (true≢false (sym here ∙ e))) in
+    let r = refused (goal.at.returns-then-is_unknown c).Start c.loop-i.invariant.0 c.unfit.result c.unfit.ensures (λ e. absurd (true≢false (sym here ∙ e))) in
     record { value = r.0; units_after = λ e. absurd (r.1 e) }
 
 pub convert_one-requires : goal.convert_one-requires
@@ -97,7 +96,7 @@ unfit-requires-then-convert_one c = c.loop-i.invariant.0
 pub returns-then-convert_one : goal.returns-then-convert_one
 returns-then-convert_one c =
     let here = outside_here c.loop-i.invariant.1.1 Hold c.wish_of.result (wish_is (goal.at.returns-then-convert_one c).After-convert_one) _ c.convert_one.ensures.value (omega arith) c.if-convert_one.true in
-    let r = refused (goal.at.returns-then-convert_one c).After-is_unknown c.unfit-then-convert_one.result c.unfit-then-convert_one.ensures (λ e. rw made_take at (sym here)) in
+    let r = refused (goal.at.returns-then-convert_one c).Start c.loop-i.invariant.0 c.unfit-then-convert_one.result c.unfit-then-convert_one.ensures (λ e. rw made_take at (sym here)) in
     record { value = r.0; units_after = λ e. absurd (r.1 e) }
 
 pub overflow_add-i : goal.overflow_add-i

@@ -14,7 +14,7 @@ as_is e = (ap is_unknown e, λ v. ap (λ (x : Made). units_of (made_wish x) v) e
 pub returns-then-sort-eq0 : goal.returns-then-sort-eq0
 unfolding wish_made
 returns-then-sort-eq0 c =
-    record { unknown = (rw (eq-eqb _ _ c.if-sort-eq0.true) (as_is c.make_units.ensures)).0; units = (rw (eq-eqb _ _ c.if-sort-eq0.true) (as_is c.make_units.ensures)).1 }
+    record { unknown = rw (eq-eqb _ _ c.if-sort-eq0.true) (as_is c.make_units.ensures).0; units = rw (eq-eqb _ _ c.if-sort-eq0.true) (as_is c.make_units.ensures).1 }
 
 pub returns-then-sort-eq1 : goal.returns-then-sort-eq1
 unfolding wish_made

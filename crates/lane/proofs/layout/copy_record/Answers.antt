@@ -7,5 +7,4 @@ use Rattle.lane.proofs.layout.copy_record.Goals as goal
 pub returns : goal.returns
 returns c =
     let a = c.args in
-    let put = (c.put_carrier.ensures.l_unchanged, c.put_carrier.ensures.l_after) in
-    record { l_unchanged = put.0; l_after = put.1 ∙ ap (set (records_in a.l.now) a.to) c.carrier_at-c.ensures }
+    record { l_unchanged = c.put_carrier.ensures.l_unchanged; l_after = c.put_carrier.ensures.l_after ∙ ap (set (records_in a.l.now) a.to) c.carrier_at-c.ensures }

@@ -1,7 +1,6 @@
 -- Each turn puts one row of the other table in force.
 use mathlib.Core.Path.{ap, ap₂, ◌∙◌}
 use mathlib.Core.List.{List}
-use Prim.Native.Nat.{◌-◌}
 use native.Mathlib.Omega.{arith}
 use Rattle.lane.specs.declared.Row.{Row}
 use Rattle.lane.specs.Surface.{row_of}

@@ -1,6 +1,5 @@
 -- `lane::listing::read_carriers` meets its contract: the carriers read stand in the first records, and the others are still in the text.
 use mathlib.Core.Path.{refl}
-use Prim.Native.Nat.{◌-◌}
 use native.Mathlib.Omega.{arith}
 use borrow.Author.Tests.{not-false, not-true}
 use Rattle.lane.specs.Layout.{records_in}

@@ -1,7 +1,7 @@
 -- What the search has passed has another number, and where it stops stands the number, or the end.
 use mathlib.Core.Path.{◌≡◌, sym, ◌∙◌, subst}
 use mathlib.Core.List.{List}
-use Prim.Native.Nat.{ℕ, ◌+◌, ◌-◌, ◌≤◌, ◌<◌}
+use Prim.Native.Nat.{ℕ, ◌+◌, ◌≤◌, ◌<◌}
 use native.Mathlib.Nat.{zero-add}
 use native.Mathlib.Omega.{arith}
 use lib.ListN.{length}
@@ -42,11 +42,11 @@ look-requires c =
 -- what `look` tells of the record at the loop's place
 module _ (c : After-look) where
   -- the count after the call
-  next : c.look.new.looked.1.0 ≡ c.loop-looked.looked + 1
+  next : c.look.new.looked ≡ c.loop-looked.looked + 1
   next = c.look.ensures.looked_after
 
-  in_reach : c.loop-looked.looked < length (cs c.before.before.before)
-  in_reach = omega (arith, counted c.before.before.before)
+  in_reach : c.loop-looked.looked < length (state_of c.args.l.now).carriers
+  in_reach = omega (arith, c.present-count.ensures)
 
 -- the answer, and that it rests on the records counted
 with_rest : (number : ℕ) (cs : List Carrier) (r : Lookup) → r ≡ lookup number cs → (r ≡ lookup number cs) × RestsOn number cs r.looked

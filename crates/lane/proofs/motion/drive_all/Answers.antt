@@ -3,7 +3,7 @@
 use borrow.Author.Rules.{rules}
 use mathlib.Core.Path.{◌≡◌, refl, sym, ap, ◌∙◌, subst}
 use mathlib.Core.List.{List}
-use Prim.Native.Nat.{◌-◌, ◌≤◌, ◌<◌}
+use Prim.Native.Nat.{◌≤◌, ◌<◌}
 use native.Mathlib.Omega.{arith}
 use lib.IntN.{ℤ, pos}
 use lib.ListN.{get_or}
@@ -98,7 +98,7 @@ loop-i-preserved c =
       same_head c.keep-left.ensures.l_unchanged inv.0,
       driving_on inv.1 x c.drive_one-d.result c.marked-word.result c.move_one.result (below (goal.at.loop-i-preserved c).After-carrier_at-c) (narrow_here (goal.at.loop-i-preserved c).After-carrier_at-c)
           c.carrier_at-c.ensures (c.drive_one-d.ensures.value ∙ driven) c.marked-word.ensures (c.move_one.ensures ∙ moved-there) _ _
-          c.keep-left.ensures.l_after.0 c.keep-left.ensures.l_after.1,
+          c.keep-left.ensures.l_after c.keep-left.ensures.value,
     )
 
 pub returns : goal.returns

@@ -41,8 +41,7 @@ stands_is c t e =
 
 pub wish_stands-requires : goal.wish_stands-requires
 wish_stands-requires c =
-    let p = (c.requires.bound, c.requires.length_bound) in
-    record { bound = rw (trimmed_is (goal.at.wish_stands-requires c).After-trimmed-trimmed) (p.0.0); w_value = rw (trimmed_is (goal.at.wish_stands-requires c).After-trimmed-trimmed) (((leads (goal.at.wish_stands-requires c).After-trimmed-trimmed).sum, omega (arith, (leads (goal.at.wish_stands-requires c).After-trimmed-trimmed).small, p.0.1.1))); length_bound = rw (trimmed_is (goal.at.wish_stands-requires c).After-trimmed-trimmed) ((p.1.0, (omega (arith, p.0.1), p.1.1))) }
+    record { bound = c.requires.bound.0; w_value = rw (trimmed_is (goal.at.wish_stands-requires c).After-trimmed-trimmed) (((leads (goal.at.wish_stands-requires c).After-trimmed-trimmed).sum, omega (arith, (leads (goal.at.wish_stands-requires c).After-trimmed-trimmed).small, c.requires.bound.1.1))); length_bound = ((c.requires.length_bound.0, (omega (arith, c.requires.bound.1), c.requires.length_bound.1))) }
 
 pub returns-then-wish_stands : goal.returns-then-wish_stands
 returns-then-wish_stands c =

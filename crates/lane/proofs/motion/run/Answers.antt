@@ -49,7 +49,7 @@ module _ (d : After-drive_all-left) where
       ≡ left_after (state_of (l d.before.before.before.before)) (drives_with (state_of (l d.before.before.before.before)) (take d.args.count d.args.units.now))
   kept_is =
       said (λ row road cs. take d.drive_all-left.result.count (records_in d.drive_all-left.new.l) ≡ remaining road (all_moved cs (drives_of row road cs)))
-      d.drive_all-left.ensures.l_after.0
+      d.drive_all-left.ensures.l_after
 
 pub row_in-row-requires : goal.row_in-row-requires
 row_in-row-requires c =
@@ -74,16 +74,16 @@ pub returns : goal.returns
 returns c =
     let lane = l (goal.at.returns c).After-figures_of-f in
     let left = c.drive_all-left.result.count in
-    let all = c.drive_all-left.ensures.l_after.1 in
-    let figures : figures_in c.put_count.new.0 ≡ counting (figures_in lane) ((state_of lane).cycle + 1) left =
+    let all = c.drive_all-left.ensures.count_le_count in
+    let figures : figures_in c.put_count.new.l ≡ counting (figures_in lane) ((state_of lane).cycle + 1) left =
     c.put_count.ensures.l_after
-    ∙ ap₂ (λ (f g : Figures). counting f (g.cycle + 1) left) c.drive_all-left.ensures.l_after.1.1.0.0 c.figures_of-f.ensures.value
+    ∙ ap₂ (λ (f g : Figures). counting f (g.cycle + 1) left) c.drive_all-left.ensures.count_le_count.1.0.0 c.figures_of-f.ensures.value
     in
     record {
       no_value = refl;
       word_value = word_is (goal.at.returns c).After-drive_all-left;
       replaced_value = ap ones (word_is (goal.at.returns c).After-drive_all-left) ∙ word_ones _;
       l_after = omega (arith, all.0, ap (λ (f : Figures). f.count) figures);
-      l_after_2 = carriers_are lane c.put_count.new.0 _ left (records_in c.drive_all-left.new.0) _ figures (c.put_count.ensures.l_unchanged.0 ∙ c.drive_all-left.ensures.l_after.1.1.0.1) c.put_count.ensures.l_unchanged.1
+      l_after_2 = carriers_are lane c.put_count.new.l _ left (records_in c.drive_all-left.new.l) _ figures (c.put_count.ensures.l_unchanged ∙ c.drive_all-left.ensures.count_le_count.1.0.1) c.put_count.ensures.l_unchanged_2
           (omega (arith, all.0, all.1.1, few (goal.at.returns c).After-figures_of-f)) (kept_is (goal.at.returns c).After-drive_all-left);
     }

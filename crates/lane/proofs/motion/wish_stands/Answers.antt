@@ -38,4 +38,4 @@ returns c =
     c.rests_behind.ensures
     ∙ rw (c.guaranteed_rate-rate.ensures, c.narrow-v.ensures, c.reach_to.ensures, c.narrow.ensures, c.narrow-2.ensures, to_z-of_z c.ranges.w)
     (test_stands a.row a.foremost a.ahead a.c a.w c.if-foremost.false c.requires.bound.0 c.requires.bound.1
-    (record { sum = c.requires.w_value.0.0; small = c.requires.w_value.0.1 }) (tested (goal.at.returns c).After-braking _ c.if-w-braking.false))
+    (record { sum = c.requires.w_value.0; small = c.requires.w_value.1 }) (tested (goal.at.returns c).After-braking _ c.if-w-braking.false))

@@ -1,5 +1,4 @@
 -- The walk is a search for a lower position: what it has passed is no answer, and where it stops is one.
-use Prim.Native.Nat.{◌-◌}
 use native.Mathlib.Omega.{arith}
 use borrow.Author.Rules.{rules}
 use borrow.Author.Tests.{lt-ltb, le-ltb}

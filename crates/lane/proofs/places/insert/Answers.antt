@@ -14,8 +14,8 @@ pub loop-i-init : goal.loop-i-init
 loop-i-init c =
     let l = c.args.l.now in
     let f = c.figures_of-f in
-    let e : f.result.count ≡ (figures_in l).count = ap (λ (g : Figures). g.count) f.ensures.0 in
-    (e, (f.ensures.1, (omega arith, (omega arith, ((refl, refl), rw e (opened_start (records_in l) (figures_in l).count))))))
+    let e : f.result.count ≡ (figures_in l).count = ap (λ (g : Figures). g.count) f.ensures.value in
+    (e, (f.ensures.l_len, (omega arith, (omega arith, ((refl, refl), rw e (opened_start (records_in l) (figures_in l).count))))))
 
 pub loop-i-smaller : goal.loop-i-smaller
 loop-i-smaller c = omega arith
@@ -28,18 +28,17 @@ loop-i-preserved c =
 
 pub returns : goal.returns
 returns c =
-    let put = (c.put_carrier.ensures.l_unchanged, c.put_carrier.ensures.l_after) in
     let f = c.figures_of-f in
     let a = c.args in
     let l = a.l.now in
     let o = c.loop-i.invariant.1.1.1.1.1 in
-    let head = same_head put.0 c.loop-i.invariant.1.1.1.1.0 in
+    let head = same_head c.put_carrier.ensures.l_unchanged c.loop-i.invariant.1.1.1.1.0 in
     let e : c.loop-i.i ≡ a.place = omega arith in
     let n = (figures_in l).count in
     let records = set (records_in c.loop-i.l) a.place a.c in
     carriers_are l _ _ (n + 1) records _
-    (c.put_count.ensures.l_after ∙ ap₂ (λ (g h : Figures). counting g h.cycle (h.count + 1)) head.0 f.ensures.0)
-    (c.put_count.ensures.l_unchanged.0 ∙ head.1)
-    (c.put_count.ensures.l_unchanged.1 ∙ put.1)
+    (c.put_count.ensures.l_after ∙ ap₂ (λ (g h : Figures). counting g h.cycle (h.count + 1)) head.0 f.ensures.value)
+    (c.put_count.ensures.l_unchanged ∙ head.1)
+    (c.put_count.ensures.l_unchanged_2 ∙ c.put_carrier.ensures.l_after)
     (omega (arith, o.long, length-set (records_in c.loop-i.l) a.place a.c))
     (opened_end _ _ _ _ _ (omega arith) (omega arith) (rw e at o))

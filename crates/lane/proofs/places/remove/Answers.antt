@@ -12,15 +12,15 @@ use Rattle.lane.proofs.places.remove.Goals as goal
 pub overflow_sub-last : goal.overflow_sub-last
 overflow_sub-last c =
     let f = c.figures_of-f in
-    let e : f.result.count ≡ (figures_in c.args.l.now).count = ap (λ (g : Figures). g.count) f.ensures.0 in
+    let e : f.result.count ≡ (figures_in c.args.l.now).count = ap (λ (g : Figures). g.count) f.ensures.value in
     omega arith
 
 pub loop-i-init : goal.loop-i-init
 loop-i-init c =
     let a = c.args in
     let f = c.figures_of-f in
-    let e : f.result.count ≡ (figures_in a.l.now).count = ap (λ (g : Figures). g.count) f.ensures.0 in
-    (omega arith, (f.ensures.1, (omega arith, (omega arith, ((refl, refl), closed_start (records_in a.l.now) a.place)))))
+    let e : f.result.count ≡ (figures_in a.l.now).count = ap (λ (g : Figures). g.count) f.ensures.value in
+    (omega arith, (f.ensures.l_len, (omega arith, (omega arith, ((refl, refl), closed_start (records_in a.l.now) a.place)))))
 
 pub loop-i-smaller : goal.loop-i-smaller
 loop-i-smaller c = omega arith
@@ -40,8 +40,8 @@ returns c =
     let n = (figures_in l).count in
     let e : c.loop-i.i ≡ n - 1 = omega arith in
     carriers_are l _ _ (n - 1) _ _
-    (c.put_count.ensures.l_after ∙ ap₂ (λ (g h : Figures). counting g h.cycle (h.count - 1)) inv.1.1.1.1.0.0 f.ensures.0)
-    (c.put_count.ensures.l_unchanged.0 ∙ inv.1.1.1.1.0.1)
-    c.put_count.ensures.l_unchanged.1
+    (c.put_count.ensures.l_after ∙ ap₂ (λ (g h : Figures). counting g h.cycle (h.count - 1)) inv.1.1.1.1.0.0 f.ensures.value)
+    (c.put_count.ensures.l_unchanged ∙ inv.1.1.1.1.0.1)
+    c.put_count.ensures.l_unchanged_2
     (omega (arith, o.long))
     (closed_end _ _ _ _ (omega arith) (rw e at o))

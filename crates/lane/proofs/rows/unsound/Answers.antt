@@ -1,9 +1,8 @@
 -- The rows passed are sound.
 use borrow.Author.Rules.{rules}
 use mathlib.Core.Path.{◌≡◌, sym, ap, ◌∙◌}
-use mathlib.Core.Bool.{false}
+use mathlib.Core.Bool.{not}
 use mathlib.Core.List.{map}
-use Prim.Native.Nat.{◌-◌}
 use native.Mathlib.Omega.{arith}
 use Rattle.lane.specs.Surface.{row_of, sound_row}
 use Rattle.lane.specs.Layout.{surface_in}
@@ -20,11 +19,11 @@ tested c = c.sound.ensures ∙ ap sound_row (sym (row_read c.args.table c.loop-c
 
 pub returns-then-not-sound : goal.returns-then-not-sound
 returns-then-not-sound c =
-    sym (unsound_found (map surface_in c.args.table) c.loop-code.code (omega arith) (rw (tested (goal.at.returns-then-not-sound c).After-sound) at c.if-not-sound.true))
+    sym (unsound_found (map surface_in c.args.table) c.loop-code.code (omega arith) (ap not (sym (tested (goal.at.returns-then-not-sound c).After-sound) ∙ c.if-not-sound.true)))
 
 pub loop-code-preserved : goal.loop-code-preserved
 loop-code-preserved c =
-    (omega arith, sound_passed (map surface_in c.args.table) c.loop-code.code c.loop-code.invariant.1 (rw (tested (goal.at.loop-code-preserved c).After-sound) at c.if-not-sound.false))
+    (omega arith, sound_passed (map surface_in c.args.table) c.loop-code.code c.loop-code.invariant.1 (ap not (sym (tested (goal.at.loop-code-preserved c).After-sound) ∙ c.if-not-sound.false)))
 
 pub returns : goal.returns
 returns c =

@@ -1,8 +1,7 @@
 -- The rows passed are sound.
 use borrow.Author.Rules.{rules}
 use mathlib.Core.Path.{◌≡◌, sym, ap, ◌∙◌}
-use mathlib.Core.Bool.{false}
-use Prim.Native.Nat.{◌-◌}
+use mathlib.Core.Bool.{not}
 use native.Mathlib.Omega.{arith}
 use Rattle.lane.specs.Surface.{row_of, sound_row}
 use Rattle.lane.specs.Layout.{table_from}
@@ -18,11 +17,11 @@ tested c = c.sound.ensures ∙ ap sound_row c.surface_at.ensures
 
 pub returns-then-not-sound : goal.returns-then-not-sound
 returns-then-not-sound c =
-    sym (unsound_found (table_from c.args.table c.args.l.now) c.loop-code.code (omega arith) (rw (tested (goal.at.returns-then-not-sound c).After-sound) at c.if-not-sound.true))
+    sym (unsound_found (table_from c.args.table c.args.l.now) c.loop-code.code (omega arith) (ap not (sym (tested (goal.at.returns-then-not-sound c).After-sound) ∙ c.if-not-sound.true)))
 
 pub loop-code-preserved : goal.loop-code-preserved
 loop-code-preserved c =
-    (omega arith, sound_passed (table_from c.args.table c.args.l.now) c.loop-code.code c.loop-code.invariant.1 (rw (tested (goal.at.loop-code-preserved c).After-sound) at c.if-not-sound.false))
+    (omega arith, sound_passed (table_from c.args.table c.args.l.now) c.loop-code.code c.loop-code.invariant.1 (ap not (sym (tested (goal.at.loop-code-preserved c).After-sound) ∙ c.if-not-sound.false)))
 
 pub returns : goal.returns
 returns c =

@@ -3,10 +3,8 @@
 use mathlib.Core.Path.{◌≡◌, refl, sym, ap, ◌∙◌, subst}
 use mathlib.Core.Bool.{Bool, true, ◌||◌, ◌&&◌, cond}
 use mathlib.Core.List.{List, []}
-use mathlib.Core.Logic.{⊎_elim}
 use Prim.Native.Nat.{ℕ, ◌-◌, ◌%◌, ◌≤◌, ◌<◌}
 use native.Mathlib.Omega.{arith}
-use borrow.Author.Tests.{not-true, not-false}
 use lib.ListN.{length, get_or, length-set, take, replicate}
 use lib.Seq.{slice, slice_empty}
 use Rattle.lane.specs.declared.Carrier.{Carrier}
@@ -20,7 +18,7 @@ use Rattle.lane.proofs.checks.Soundness.{Fit, SoundRoad, sound_road, fit, fit_na
 use Rattle.lane.proofs.checks.Surfaces.{rate_brakes}
 use Rattle.lane.proofs.checks.Gaps.{pair_narrow}
 use Rattle.lane.proofs.checks.Faults.{low, Leads, met_none, linked_none, met_next, linked_next, misfit_none, misfit_next, misfit_whole, gap_next, gap_past}
-use Rattle.lane.proofs.rules.carriers_refusal.Goals.{After-linked, After-loop-i, After-past_end, After-safe_at, At-loop-i, Else-unlawful-past_end, Joined-i-count}
+use Rattle.lane.proofs.rules.carriers_refusal.Goals.{then-i-count+then-not-safe_at, then-i-count+else-not-safe_at, else-i-count, After-linked, After-loop-i, After-past_end, At-loop-i, Else-unlawful-past_end, Joined-i-count}
 use Rattle.lane.proofs.rules.carriers_refusal.Goals as goal
 
 nobody_safe : (r : Row) → true ≡ lane_safe r []
@@ -96,27 +94,31 @@ safe_at-requires c =
     record { bound = (rate_brakes a.row c.loop-i.behind c.requires.le_guaranteed next.rate_least, inv.stop_is h); length_bound = (narrow.0, narrow.1.1) }
 
 -- with the gap to the one behind, where there is one
-gap : (c : After-safe_at) → let a = c.args in
-    lane_safe a.row (slice (c.loop-i.i - 1) a.count (l c.before.before)) ≡ c.safe_at.result && c.loop-i.safe
-gap c =
-    let a = c.args in
-    let inv = c.loop-i.invariant in
-    let h : c.loop-i.i < a.count = omega arith in
-    let ahead = c.carrier_at-c.ensures in
-    gap_next (l c.before.before) a.count (omega arith) c.loop-i.i (omega arith) (omega arith) a.row (carrier c.before.before) c.loop-i.behind ahead (inv.behind_is h) h
-    ∙ sym (ap (λ (t : Bool). t && c.loop-i.safe) c.safe_at.ensures ∙ ap (λ (t : Bool). safe_with a.row (leader (carrier c.before.before)) c.loop-i.behind && t) inv.safe_is)
+module _ (c : Joined-i-count) (h : c.loop-i.i < c.args.count) where
+  gap : (b : Bool) → b ≡ safe_with c.args.row (leader c.carrier_at-c.result) c.loop-i.behind
+      → lane_safe c.args.row (slice (c.loop-i.i - 1) c.args.count (records_in c.args.l.now)) ≡ b && c.loop-i.safe
+  gap b e =
+      let a = c.args in
+      let l = records_in a.l.now in
+      let inv = c.loop-i.invariant in
+      gap_next l a.count (omega arith) c.loop-i.i (omega arith) (omega arith) a.row c.carrier_at-c.result c.loop-i.behind c.carrier_at-c.ensures (inv.behind_is h) h
+      ∙ sym (ap (λ (t : Bool). t && c.loop-i.safe) e ∙ ap (λ (t : Bool). safe_with a.row (leader c.carrier_at-c.result) c.loop-i.behind && t) inv.safe_is)
 
 -- past both tests of the carrier it is known whether those from it on are safe
 safe_on : (c : Joined-i-count) → let a = c.args in
-    c.if-i-count.safe ≡ lane_safe a.row (slice (c.loop-i.i - 1) a.count (l c.before))
+    c.if-i-count.safe ≡ lane_safe a.row (slice (c.loop-i.i - 1) a.count (records_in a.l.now))
 safe_on c =
     let a = c.args in
-    ⊎_elim
-    (λ w. w.3 ∙ sym (gap record { before = record { before = c.before; if2 = w.0 }; safe_at = w.1 } ∙ ap (λ (t : Bool). t && c.loop-i.safe) (not-true w.1.result w.2.taken)))
-    (⊎_elim
-    (λ w. w.3 ∙ sym (gap record { before = record { before = c.before; if2 = w.0 }; safe_at = w.1 } ∙ ap (λ (t : Bool). t && c.loop-i.safe) (not-false w.1.result w.2.left)))
-    (λ w. w.1 ∙ c.loop-i.invariant.safe_is ∙ sym (gap_past (l c.before) a.count (omega arith) c.loop-i.i (omega arith) (omega arith) a.row (omega (arith, w.0.left)))))
-    c.if-i-count.branch
+    let l = records_in a.l.now in
+    elim c.if-i-count.branch [
+      | then-i-count+then-not-safe_at w ↦
+          w.safe-is ∙ sym (gap c (omega (arith, w.if-i-count.true)) w.safe_at.result w.safe_at.ensures ∙ ap (λ (t : Bool). t && c.loop-i.safe) w.if-not-safe_at.true)
+      | then-i-count+else-not-safe_at w ↦
+          w.safe-is ∙ sym (gap c (omega (arith, w.if-i-count.true)) w.safe_at.result w.safe_at.ensures ∙ ap (λ (t : Bool). t && c.loop-i.safe) w.if-not-safe_at.false)
+      | else-i-count w ↦
+          w.safe-is ∙ c.loop-i.invariant.safe_is
+          ∙ sym (gap_past l a.count (omega arith) c.loop-i.i (omega arith) (omega arith) a.row (omega (arith, w.if-i-count.false)))
+    ]
 
 pub rest-stop-requires : goal.rest-stop-requires
 rest-stop-requires c =
@@ -133,9 +135,10 @@ linked-requires c =
     record { count_bound = (omega arith, omega arith); none_value = m.alike; by_index = λ p h k q. let to = link p (omega (arith, m.on)) k (carrier (goal.at.linked-requires c).Else-unlawful-past_end).number q in (omega (arith, to.on), (to.skips, to.alike)) }
 
 -- the number among the carriers passed
-again : (c : After-linked) → any_of (numbered (carrier c.before.before.before.before.before.before.before).number) (slice c.loop-i.i c.args.count (l c.before.before.before.before.before.before.before)) ≡ c.linked.result
+again : (c : After-linked) → any_of (numbered c.carrier_at-c.result.number) (slice c.loop-i.i c.args.count (records_in c.args.l.now)) ≡ c.linked.result
 again c =
-    (start c.before.before.before.before.before.before.before c.place_of.result c.place_of.ensures).skips ∙ sym c.linked.ensures
+    let leads = Leads (records_in c.args.l.now) c.args.count c.carrier_at-c.result.number c.loop-i.i in
+    (subst leads (sym c.place_of.ensures) (c.loop-i.invariant.met c.carrier_at-c.result.number)).skips ∙ sym c.linked.ensures
 
 pub returns-then-linked : goal.returns-then-linked
 returns-then-linked c =

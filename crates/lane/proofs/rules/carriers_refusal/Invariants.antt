@@ -1,4 +1,3 @@
-use Prim.Native.Nat.{◌-◌}
 use Rattle.lane.specs.Layout.{records_in}
 use Rattle.lane.proofs.checks.Faults.{Passed}
 use Rattle.lane.proofs.rules.carriers_refusal.Given as goal

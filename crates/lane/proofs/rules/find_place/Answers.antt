@@ -61,7 +61,7 @@ gap_refusal-no-requires c =
     let own = newcomer_fit f.road a.c (rw c.figures_of-f.ensures.value c.requires.1) in
     let new = fit_narrow f.road a.c s.road own in
     record {
-      place_le_count = (omega (arith, c.entry_IsPlace.ensures), (s.count, c.figures_of-f.ensures.l_len));
+      place_le_count = (omega (arith, c.entry_place-place.ensures), (s.count, c.figures_of-f.ensures.l_len));
       le_guaranteed = (rw c.row_in.ensures (row_brakes _ (row_sound s)), (new.position, (new.speed, (new.short, own.rate_least))));
       by_index = λ i h.
           let fits = fit_of f.road l f.count i none s.carriers h (omega (arith, s.count)) in
@@ -73,11 +73,11 @@ gap_refusal-no-requires c =
 gap_decides : (c : After-gap_refusal-no) → let a = c.args in place_no (state_of a.l.now) a.c ≡ c.gap_refusal-no.result
 gap_decides c =
     found_decides c.before.before.before.before _ (found_nowhere _ _ _ c.find-named.ensures.found c.in_default.is)
-    ∙ rw (← c.entry_IsPlace.ensures, ← c.row_in.ensures) (sym c.gap_refusal-no.ensures)
+    ∙ rw (← c.entry_place-place.ensures, ← c.row_in.ensures) (sym c.gap_refusal-no.ensures)
 
 pub returns-then-no-ne0 : goal.returns-then-no-ne0
 returns-then-no-ne0 c = refused_as _ _ _ _ (gap_decides (goal.at.returns-then-no-ne0 c).After-gap_refusal-no) c.if-no-ne0.true c.refused-then-no-ne0.ensures
 
 pub returns : goal.returns
 returns c =
-    accepted_as _ _ _ (gap_decides (goal.at.returns c).After-gap_refusal-no ∙ c.if-no-ne0.false) (rw c.figures_of-f.ensures.value at c.entry_IsPlace.ensures)
+    accepted_as _ _ _ (gap_decides (goal.at.returns c).After-gap_refusal-no ∙ c.if-no-ne0.false) (rw c.figures_of-f.ensures.value at c.entry_place-place.ensures)

@@ -1,25 +1,25 @@
 -- The tests on the two carriers next to the place are made in the order of `gap_no`, each only where there is such a carrier.
-use mathlib.Core.Path.{◌≡◌, refl, ◌∙◌}
+use mathlib.Core.Path.{◌≡◌, refl, sym, ap, ◌∙◌}
 use mathlib.Core.Bool.{true, not, ◌&&◌}
-use mathlib.Core.Logic.{⊎_elim}
 use Prim.Native.Nat.{◌-◌}
 use native.Mathlib.Omega.{arith}
-use borrow.Author.Tests.{not-false, lt-ltb, le-ltb}
+use borrow.Author.Tests.{lt-ltb, le-ltb}
 use lib.Dec.{ltb}
 use lib.ListN.{length, get_or, take}
 use lib.Seq.{get_or-take, length-take-le}
+use Rattle.lane.specs.declared.Carrier.{Carrier}
 use Rattle.lane.specs.Layout.{records_in}
 use Rattle.lane.specs.Safety.{leader, safe_with}
 use Rattle.lane.specs.Calls.{none, ahead_of, gap_no}
 use Rattle.lane.proofs.checks.Surfaces.{rate_brakes}
 use Rattle.lane.proofs.checks.Gaps.{ahead_is, ahead_nobody}
-use Rattle.lane.proofs.rules.gap_refusal.Goals.{After-safe, After-safe-then-place-count, Joined-place-gt0}
+use Rattle.lane.proofs.rules.gap_refusal.Goals.{then-place-gt0+else-not-safe, else-place-gt0, After-safe, After-safe-then-place-count, Joined-place-gt0}
 use Rattle.lane.proofs.rules.gap_refusal.Goals as goal
 
 pub safe-requires : goal.safe-requires
 safe-requires c =
-    let own = c.requires.le_guaranteed.0 in
-    let ahead = rw (← c.carrier_at.ensures) at (c.requires.le_guaranteed.1 (c.args.place - 1) (omega arith)) in
+    let own = c.requires.le_guaranteed in
+    let ahead = rw (← c.carrier_at.ensures) at (c.requires.by_index (c.args.place - 1) (omega arith)) in
     record { bound = rate_brakes c.args.row c.args.c own.0 own.1.1.1.1; length_bound = (omega (arith, own.1, ahead), (own.1.1.0, (omega (arith, ahead), ahead.1.0))) }
 
 -- the first test, where someone is ahead
@@ -44,15 +44,17 @@ ahead_safe : (c : Joined-place-gt0) → let a = c.args in
 unfolding safe_with
 ahead_safe c =
     let a = c.args in
-    ⊎_elim
-    (λ w. ahead_tested record { before = record { before = record { before = c.before; if1 = w.0 }; carrier-at = w.1 }; safe = w.2 } ∙ not-false _ w.3.left)
-    (λ w. rw (ahead_nobody (records_in a.l.now) a.count a.place w.left) refl)
-    c.if-place-gt0.branch
+    elim c.if-place-gt0.branch [
+      | then-place-gt0+else-not-safe w ↦
+          rw (ahead_is (records_in a.l.now) a.count a.place w.if-place-gt0.true (omega arith))
+          (sym (w.safe.ensures ∙ ap (λ (x : Carrier). safe_with a.row (leader x) a.c) w.carrier_at.ensures) ∙ w.if-not-safe.false)
+      | else-place-gt0 w ↦ rw (ahead_nobody (records_in a.l.now) a.count a.place w.if-place-gt0.false) refl
+    ]
 
 pub safe-requires-then-place-count : goal.safe-requires-then-place-count
 safe-requires-then-place-count c =
-    let own = c.requires.le_guaranteed.0 in
-    let behind = rw (← c.carrier_at-then-place-count.ensures) at (c.requires.le_guaranteed.1 c.args.place (omega arith)) in
+    let own = c.requires.le_guaranteed in
+    let behind = rw (← c.carrier_at-then-place-count.ensures) at (c.requires.by_index c.args.place (omega arith)) in
     record { bound = rate_brakes c.args.row c.carrier_at-then-place-count.result own.0 behind.1.1.1; length_bound = (omega (arith, own.1, behind), (behind.1.0, (omega (arith, own.1), own.1.1.0))) }
 
 -- the second test, where someone is behind

@@ -1,7 +1,7 @@
 -- What the links pass over has other numbers.
 use mathlib.Core.Path.{◌≡◌, refl, sym, ◌∙◌, subst}
 use mathlib.Core.Bool.{◌||◌}
-use Prim.Native.Nat.{ℕ, ◌+◌, ◌-◌, ◌%◌, ◌<◌}
+use Prim.Native.Nat.{ℕ, ◌+◌, ◌%◌, ◌<◌}
 use native.Mathlib.Omega.{arith}
 use borrow.Author.Tests.{eq-eqb, ne_eqb}
 use lib.ListN.{get_or}
@@ -14,7 +14,7 @@ use Rattle.lane.proofs.rules.linked.Goals.{After-carrier_at-c, After-place_of-pl
 use Rattle.lane.proofs.rules.linked.Goals as goal
 
 pub loop-place-init : goal.loop-place-init
-loop-place-init c = (omega arith, (refl, c.requires.none_value.0))
+loop-place-init c = (omega arith, (refl, c.requires.none_value))
 
 -- those from a place on, by the carrier there
 from_here : (c : After-carrier_at-c) → let a = c.args in
@@ -38,7 +38,7 @@ module _ (c : After-place_of-place) where
 
   link : Leads c.place_of-place.result
   link =
-      subst Leads (sym c.place_of-place.ensures) (c.requires.none_value.1 c.loop-place.place (omega arith) (omega arith) (c.loop-place.invariant.1.1 (omega arith)))
+      subst Leads (sym c.place_of-place.ensures) (c.requires.by_index c.loop-place.place (omega arith) (omega arith) (c.loop-place.invariant.1.1 (omega arith)))
 
 pub loop-place-smaller : goal.loop-place-smaller
 loop-place-smaller c = omega (arith, (link (goal.at.loop-place-smaller c).After-place_of-place).0)

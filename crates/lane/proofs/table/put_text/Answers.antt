@@ -1,5 +1,4 @@
 -- The rows still to see, put after those seen, give the whole text.
-use Prim.Native.Nat.{◌-◌}
 use native.Mathlib.Omega.{arith}
 use Rattle.text.proofs.Laws.{putting_start, putting_next, putting_end}
 use Rattle.lane.specs.Layout.{table_from}

@@ -1,6 +1,5 @@
 -- The length so far and that of the rows still to see make up the whole's.
 use mathlib.Core.Path.{ap}
-use Prim.Native.Nat.{◌-◌}
 use native.Mathlib.Omega.{arith}
 use lib.ListN.{length}
 use Rattle.lane.specs.declared.Row.{Row}

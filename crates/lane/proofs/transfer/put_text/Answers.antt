@@ -33,7 +33,7 @@ put_text-in_force-requires c = (omega arith, omega (arith, room (goal.at.put_tex
 
 -- a part that was put leaves the buffer as long as it was, and the place behind it
 module _ (c : After-put_text-in_force) where
-  long : length c.put_text-in_force.new.out.1.0 ≡ length c.args.out.now
+  long : length c.put_text-in_force.new.out ≡ length c.args.out.now
   long = ap length c.put_text-in_force.ensures.out_after ∙ length_written _ _ _
 
 pub put_text-next-requires : goal.put_text-next-requires
@@ -41,20 +41,25 @@ put_text-next-requires c =
     (omega arith, omega (arith, room (goal.at.put_text-next-requires c).After-figures_of-f, long (goal.at.put_text-next-requires c).After-put_text-in_force, c.put_text-in_force.ensures.value))
 
 module _ (c : After-put_text-next) where
-  long_2 : length c.put_text-next.new.out.1.0 ≡ length c.args.out.now
-  long_2 = ap length c.put_text-next.ensures.out_after ∙ length_written _ _ _ ∙ long c.before.before.before.before
+  long_2 : length c.put_text-next.new.out ≡ length c.args.out.now
+  long_2 = ap length c.put_text-next.ensures.out_after ∙ length_written _ _ _ ∙ ap length c.put_text-in_force.ensures.out_after ∙ length_written _ _ _
 
 pub put_road-figures-requires : goal.put_road-figures-requires
 put_road-figures-requires c =
     omega (arith, room (goal.at.put_road-figures-requires c).After-figures_of-f, long_2 (goal.at.put_road-figures-requires c).After-put_text-next, c.put_text-in_force.ensures.value, c.put_text-next.ensures.value, ap length (road_is (goal.at.put_road-figures-requires c).After-figures_of-f))
 
 module _ (c : After-put_road-figures) where
-  put_there : (c.put_road-figures.new.out ≡ written c.put_text-next.result (road_text (s c.before.before.before.before.before.before.before.before.before.before.before)) c.put_text-next.last.1.1.0)
-      × (c.put_road-figures.result ≡ c.put_text-next.result + length (road_text (s c.before.before.before.before.before.before.before.before.before.before.before)))
-  put_there = rw (road_is c.before.before.before.before.before.before.before.before.before.before.before) at (c.put_road-figures.ensures.out_after, c.put_road-figures.ensures.value)
+  road_put : group_text road_keys (c.figures_of-f.result.road.surface ∷ c.figures_of-f.result.road.end ∷ c.figures_of-f.result.road.limit ∷ c.figures_of-f.result.cycle ∷ []) ≡ road_text (state_of c.args.l.now)
+  road_put = ap (λ (f : Figures). group_text road_keys (f.road.surface ∷ f.road.end ∷ f.road.limit ∷ f.cycle ∷ [])) c.figures_of-f.ensures.value
+
+  put_there : (c.put_road-figures.new.out ≡ written c.put_text-next.result (road_text (state_of c.args.l.now)) c.put_text-next.new.out)
+      × (c.put_road-figures.result ≡ c.put_text-next.result + length (road_text (state_of c.args.l.now)))
+  put_there = (rw road_put at c.put_road-figures.ensures.out_after, rw road_put at c.put_road-figures.ensures.value)
 
   long_3 : length c.put_road-figures.new.out ≡ length c.args.out.now
-  long_3 = ap length put_there.0 ∙ length_written _ _ _ ∙ long_2 c.before.before.before.before
+  long_3 =
+      ap length put_there.0 ∙ length_written _ _ _ ∙ ap length c.put_text-next.ensures.out_after ∙ length_written _ _ _
+      ∙ ap length c.put_text-in_force.ensures.out_after ∙ length_written _ _ _
 
 pub put_text-requires : goal.put_text-requires
 put_text-requires c =

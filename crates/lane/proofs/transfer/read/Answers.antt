@@ -30,15 +30,15 @@ returns c =
     let f = c.read_road-figures.result in
     let n = c.read_field-cars.result in
     let d = c.read_carriers-carriers.result in
-    let rows = c.read-in_force.new.table.1.0 in
-    let rows-2 = c.read-next.new.1.1.0 in
-    let l = c.read_carriers-carriers.new.0 in
+    let rows = c.read-in_force.new.table in
+    let rows-2 = c.read-next.new.table in
+    let l = c.read_carriers-carriers.new.l in
     let stay = c.read_carriers-carriers.ensures.l_unchanged in
-    let tables = tables_put _ (map surface_in rows) (map surface_in rows-2) c.put_next.ensures.l_after.0 c.put_in_force.ensures.l_after.0 c.put_next-2.ensures.l_after.0 in
+    let tables = tables_put _ (map surface_in rows) (map surface_in rows-2) c.put_next.ensures.l_after c.put_in_force.ensures.l_after c.put_next-2.ensures.l_after in
     parts_told text (map surface_in rows) (map surface_in rows-2) (f.road.surface ∷ f.road.end ∷ f.road.limit ∷ f.cycle ∷ []) (take n.value (records_in l)) a.next b.next f.next d.next a.ok b.ok f.ok n.ok d.ok
     (rows_told text 0 a.ok rows a.next c.read-in_force.ensures.text_value)
     (rows_told text a.next b.ok rows-2 b.next c.read-next.ensures.text_value)
     c.read_road-figures.ensures
-    (lane_told text f.next n c.read_field-cars.ensures d.ok (take n.value (records_in l)) d.next c.read_carriers-carriers.ensures.text_value.0)
+    (lane_told text f.next n c.read_field-cars.ensures d.ok (take n.value (records_in l)) d.next c.read_carriers-carriers.ensures.text_value)
     ∙ ap (λ (s : State). cond (a.ok && b.ok && f.ok && n.ok && d.ok && leb (length text) d.next) (got s []) missing)
-    (holds_it l (map surface_in rows) (map surface_in rows-2) f.road f.cycle n.value (stay.0 ∙ c.put_figures.ensures.l_after) (stay.1 ∙ c.put_figures.ensures.l_unchanged.0 ∙ tables) (few (goal.at.returns c).After-road-1) c.read_carriers-carriers.ensures.text_value.1)
+    (holds_it l (map surface_in rows) (map surface_in rows-2) f.road f.cycle n.value (stay.0 ∙ c.put_figures.ensures.l_after) (stay.1 ∙ c.put_figures.ensures.l_unchanged ∙ tables) (few (goal.at.returns c).After-road-1) c.read_carriers-carriers.ensures.l_len)

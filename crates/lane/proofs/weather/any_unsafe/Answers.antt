@@ -4,7 +4,6 @@ use mathlib.Core.Bool.{not}
 use mathlib.Core.List.{List}
 use Prim.Native.Nat.{◌-◌}
 use native.Mathlib.Omega.{arith}
-use borrow.Author.Tests.{not-true, not-false}
 use lib.ListN.{get_or}
 use Rattle.lane.specs.declared.Carrier.{Carrier}
 use Rattle.lane.specs.Layout.{records_in}
@@ -29,9 +28,9 @@ carrier_at-requires c = omega (arith, c.requires.count_bound.0)
 
 pub safe-requires : goal.safe-requires
 safe-requires c =
-    let ahead = rw (← c.carrier_at-ahead.ensures) at (c.requires.le_guaranteed.1 (c.loop-place.place - 1) (omega arith)) in
-    let own = rw (← c.carrier_at.ensures) at (c.requires.le_guaranteed.1 c.loop-place.place (omega arith)) in
-    record { bound = rate_brakes c.args.row c.carrier_at.result c.requires.le_guaranteed.0 own.1.1.1; length_bound = (omega (arith, own, ahead), (own.1.0, (omega (arith, ahead), ahead.1.0))) }
+    let ahead = rw (← c.carrier_at-ahead.ensures) at (c.requires.by_index (c.loop-place.place - 1) (omega arith)) in
+    let own = rw (← c.carrier_at.ensures) at (c.requires.by_index c.loop-place.place (omega arith)) in
+    record { bound = rate_brakes c.args.row c.carrier_at.result c.requires.le_guaranteed own.1.1.1; length_bound = (omega (arith, own, ahead), (own.1.0, (omega (arith, ahead), ahead.1.0))) }
 
 -- the pair at the place
 module _ (k : After-safe) where
@@ -47,11 +46,11 @@ pub returns-then-not-safe : goal.returns-then-not-safe
 returns-then-not-safe c =
     let a = c.args in
     let place = c.loop-place.place in
-    sym (ap not (clear_not a.row (records (goal.at.returns-then-not-safe c).After-safe) a.count (omega (arith, c.requires.count_bound)) place c.loop-place.invariant.least (omega arith) (sym (tested (goal.at.returns-then-not-safe c).After-safe) ∙ not-true _ c.if-not-safe.true)))
+    sym (ap not (clear_not a.row (records (goal.at.returns-then-not-safe c).After-safe) a.count (omega (arith, c.requires.count_bound)) place c.loop-place.invariant.least (omega arith) (sym (tested (goal.at.returns-then-not-safe c).After-safe) ∙ c.if-not-safe.true)))
 
 pub loop-place-preserved : goal.loop-place-preserved
 loop-place-preserved c =
-    clear_on c.args.row (records (goal.at.loop-place-preserved c).After-safe) c.loop-place.place c.loop-place.invariant (sym (tested (goal.at.loop-place-preserved c).After-safe) ∙ not-false _ c.if-not-safe.false)
+    clear_on c.args.row (records (goal.at.loop-place-preserved c).After-safe) c.loop-place.place c.loop-place.invariant (sym (tested (goal.at.loop-place-preserved c).After-safe) ∙ c.if-not-safe.false)
 
 pub returns : goal.returns
 returns c =
