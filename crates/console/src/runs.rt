@@ -2,7 +2,7 @@
 ghost use Rattle.std.specs.Prelude.{◌≡◌, false, ◌≤◌, length};
 ghost use Rattle.text.specs.Lines.{written, place_after};
 ghost use Rattle.lane.specs.Calls.{if_accepted};
-ghost use Rattle.lane.specs.Call.{start-call, enter-call, leave-call, surface-call, cycle-call};
+ghost use Rattle.lane.specs.Call.{start_call, enter_call, leave_call, surface_call, cycle_call};
 ghost use Rattle.console.specs.Limits.{answer_space};
 ghost use Rattle.console.specs.Blocks.{parsed, show_call};
 ghost use Rattle.console.specs.Output.{refusal};
@@ -59,7 +59,7 @@ pub(crate) fn run_start(
     out: &mut [u8],
 ) -> Stepped
     requires { answer_space ≤ length out.old }
-    ensures { RunGives l.old (parsed (start-call road first) 0) next out.old result l.new out.new }
+    ensures { RunGives l.old (parsed (start_call road first) 0) next out.old result l.new out.new }
 {
     let no = lane::start(l, road, first);
     answered(next, no, b"ok=start\n", out)
@@ -67,7 +67,7 @@ pub(crate) fn run_start(
 
 pub(crate) fn run_enter(l: &mut Lane, c: Carrier, next: usize, out: &mut [u8]) -> Stepped
     requires { answer_space ≤ length out.old }
-    ensures { RunGives l.old (parsed (enter-call c) 0) next out.old result l.new out.new }
+    ensures { RunGives l.old (parsed (enter_call c) 0) next out.old result l.new out.new }
 {
     let a = lane::enter(l, c);
     if a.no != 0 {
@@ -85,7 +85,7 @@ pub(crate) fn run_enter(l: &mut Lane, c: Carrier, next: usize, out: &mut [u8]) -
 
 pub(crate) fn run_leave(l: &mut Lane, number: u64, next: usize, out: &mut [u8]) -> Stepped
     requires { answer_space ≤ length out.old }
-    ensures { RunGives l.old (parsed (leave-call number) 0) next out.old result l.new out.new }
+    ensures { RunGives l.old (parsed (leave_call number) 0) next out.old result l.new out.new }
 {
     let no = lane::leave(l, number);
     answered(next, no, b"ok=leave\n", out)
@@ -93,7 +93,7 @@ pub(crate) fn run_leave(l: &mut Lane, number: u64, next: usize, out: &mut [u8]) 
 
 pub(crate) fn run_surface(l: &mut Lane, code: u64, next: usize, out: &mut [u8]) -> Stepped
     requires { answer_space ≤ length out.old }
-    ensures { RunGives l.old (parsed (surface-call code) 0) next out.old result l.new out.new }
+    ensures { RunGives l.old (parsed (surface_call code) 0) next out.old result l.new out.new }
 {
     let no = lane::surface(l, code);
     answered(next, no, b"ok=surface\n", out)
@@ -107,7 +107,7 @@ pub(crate) fn run_cycle(
     out: &mut [u8],
 ) -> Stepped
     requires { answer_space ≤ length out.old }
-    ensures { RunGives l.old (parsed (cycle-call count wishes) 0) next out.old result l.new out.new }
+    ensures { RunGives l.old (parsed (cycle_call count wishes) 0) next out.old result l.new out.new }
 {
     let a = lane::cycle(l, count, wishes);
     if a.no != 0 {

@@ -5,7 +5,7 @@ ghost use Rattle.std.specs.Prelude.{◌≡◌, false, [], drop};
 ghost use Rattle.std.specs.Float.Ieee.Exact.{HasValue};
 ghost use Rattle.lane.specs.Layout.{state_of, with_code, empty_words};
 ghost use Rattle.lane.specs.Calls.{named_carrier};
-ghost use Rattle.lane.specs.Call.{load-call, start-call, enter-call, leave-call, surface-call, read-call, opening-call, text-call, handover-call, bare, entered, cycled, read_out, opening, listed, Gives};
+ghost use Rattle.lane.specs.Call.{load_call, start_call, enter_call, leave_call, surface_call, read_call, opening_call, text_call, handover_call, bare, entered, cycled, read_out, opening, listed, Gives};
 ghost use Rattle.lane.specs.Given.{GivesWith};
 ghost use Rattle.lane.specs.Handover.{TakesOver};
 ghost use Rattle.console.specs.Program.{step_into, StepGives};
@@ -33,28 +33,28 @@ pub extern "C" fn rondavitse_empty(l: &mut Lane)
 // A table of surface rows as text, for the next start.
 #[unsafe(no_mangle)]
 pub extern "C" fn rondavitse_load(l: &mut Lane, text: &[u8]) -> u32
-    ensures { Gives (load-call text.now) l.old (bare result []) l.new }
+    ensures { Gives (load_call text.now) l.old (bare result []) l.new }
 {
     lane::load(l, text)
 }
 
 #[unsafe(no_mangle)]
 pub extern "C" fn rondavitse_start(l: &mut Lane, road: Road, first: u64) -> u32
-    ensures { Gives (start-call road first) l.old (bare result []) l.new }
+    ensures { Gives (start_call road first) l.old (bare result []) l.new }
 {
     lane::start(l, road, first)
 }
 
 #[unsafe(no_mangle)]
 pub extern "C" fn rondavitse_enter(l: &mut Lane, c: Carrier) -> Entered
-    ensures { Gives (enter-call c) l.old (entered result) l.new }
+    ensures { Gives (enter_call c) l.old (entered result) l.new }
 {
     lane::enter(l, c)
 }
 
 #[unsafe(no_mangle)]
 pub extern "C" fn rondavitse_leave(l: &mut Lane, number: u64) -> u32
-    ensures { Gives (leave-call number) l.old (bare result []) l.new }
+    ensures { Gives (leave_call number) l.old (bare result []) l.new }
 {
     lane::leave(l, number)
 }
@@ -62,7 +62,7 @@ pub extern "C" fn rondavitse_leave(l: &mut Lane, number: u64) -> u32
 // Another surface code between cycles.
 #[unsafe(no_mangle)]
 pub extern "C" fn rondavitse_surface(l: &mut Lane, surface: u64) -> u32
-    ensures given { Gives (surface-call surface) l.old (bare result []) l.new }
+    ensures given { Gives (surface_call surface) l.old (bare result []) l.new }
     ensures words { result ≡ 0 → l.new ≡ with_code surface l.old }
 {
     lane::surface(l, surface)
@@ -70,7 +70,7 @@ pub extern "C" fn rondavitse_surface(l: &mut Lane, surface: u64) -> u32
 
 #[unsafe(no_mangle)]
 pub extern "C" fn rondavitse_read(l: &Lane, number: u64) -> ReadOut
-    ensures given { Gives (read-call number) l.now (read_out result) l.now }
+    ensures given { Gives (read_call number) l.now (read_out result) l.now }
     ensures exact { result.no ≡ 0 → HasValue result.reading.position false (named_carrier (state_of l.now) number).position 2048 × HasValue result.reading.speed false (named_carrier (state_of l.now) number).speed 128 }
 {
     lane::read(l, number)
@@ -95,14 +95,14 @@ pub extern "C" fn rondavitse_find_opening(
     number: u64,
     newcomer: Newcomer,
 ) -> Opening
-    ensures { Gives (opening-call (gap_given_of head number) newcomer) l.now (opening result) l.now }
+    ensures { Gives (opening_call (gap_given_of head number) newcomer) l.now (opening result) l.now }
 {
     lane::find_opening(l, gap_given(head, number), newcomer)
 }
 
 #[unsafe(no_mangle)]
 pub extern "C" fn rondavitse_lane_text(l: &Lane, out: &mut [u8]) -> Listed
-    ensures { Gives (text-call out.old) l.now (listed result out.new) l.now }
+    ensures { Gives (text_call out.old) l.now (listed result out.new) l.now }
 {
     lane::lane_text(l, out)
 }
@@ -110,7 +110,7 @@ pub extern "C" fn rondavitse_lane_text(l: &Lane, out: &mut [u8]) -> Listed
 // The whole lane as text, for another host to take over.
 #[unsafe(no_mangle)]
 pub extern "C" fn rondavitse_handover(l: &Lane, out: &mut [u8]) -> Listed
-    ensures { Gives (handover-call out.old) l.now (listed result out.new) l.now }
+    ensures { Gives (handover_call out.old) l.now (listed result out.new) l.now }
 {
     lane::handover(l, out)
 }

@@ -6,7 +6,6 @@ use Prim.Native.Nat.{ℕ, ◌≤◌}
 use native.Mathlib.Omega.{arith}
 use lib.Dec.{eqb}
 use lib.Ieee.Exact.{HasValue}
-use lib.ListN.{length}
 use Rattle.wish.specs.declared.Wish.{Wish}
 use Rattle.wish.proofs.Laws.{reading_exact}
 use Rattle.lane.specs.declared.Carrier.{Carrier}

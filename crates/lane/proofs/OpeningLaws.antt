@@ -18,7 +18,7 @@ use Rattle.lane.specs.State.{State}
 use Rattle.lane.specs.Safety.{Ahead, nobody, leader, safe_with, any_of, first_place, numbered, repeats}
 use Rattle.lane.specs.Rules.{bad_number, broken}
 use Rattle.lane.specs.Calls.{none, if_accepted, ahead_of, gap_no, named_no, place_of}
-use Rattle.lane.specs.Opening.{newcomer_at, gap_place, opens, Span, span_of, opening_in, gap_named_no, opening_no}
+use Rattle.lane.specs.Opening.{newcomer_at, gap_place, opens, span_of, opening_in, gap_named_no, opening_no}
 use Rattle.lane.specs.Call.{enter_call, opening_call, Answer, call_no, call_answer}
 use Rattle.lane.proofs.Newcomers.{Newcomer as InRange, values_are}
 use Rattle.lane.proofs.EntryLaws.{entry_by_gap}

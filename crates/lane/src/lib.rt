@@ -7,7 +7,7 @@ ghost use Rattle.std.specs.Prelude.{◌≡◌, false, []};
 ghost use Rattle.std.specs.Float.Ieee.Exact.{HasValue};
 ghost use Rattle.lane.specs.Layout.{state_of, with_code, empty_words};
 ghost use Rattle.lane.specs.Calls.{named_carrier};
-ghost use Rattle.lane.specs.Call.{load-call, start-call, enter-call, leave-call, surface-call, cycle-call, read-call, opening-call, text-call, handover-call, bare, entered, cycled, read_out, opening, listed, Gives};
+ghost use Rattle.lane.specs.Call.{load_call, start_call, enter_call, leave_call, surface_call, cycle_call, read_call, opening_call, text_call, handover_call, bare, entered, cycled, read_out, opening, listed, Gives};
 ghost use Rattle.lane.specs.Given.{GivesWith};
 ghost use Rattle.lane.specs.Handover.{TakesOver};
 
@@ -182,7 +182,7 @@ pub fn empty(l: &mut Lane)
 
 // Surface rows as text, for the next start.
 pub fn load(l: &mut Lane, text: &[u8]) -> u32
-    ensures { Gives (load-call text.now) l.old (bare result []) l.new }
+    ensures { Gives (load_call text.now) l.old (bare result []) l.new }
 {
     let mut table = [[0u64; 3]; SURFACES];
     let lines = table::read(text, 0, &mut table);
@@ -196,7 +196,7 @@ pub fn load(l: &mut Lane, text: &[u8]) -> u32
 }
 
 pub fn start(l: &mut Lane, road: Road, first: u64) -> u32
-    ensures { Gives (start-call road first) l.old (bare result []) l.new }
+    ensures { Gives (start_call road first) l.old (bare result []) l.new }
 {
     let no = rules::start_refusal(l, road);
     if no != 0 {
@@ -216,7 +216,7 @@ pub fn start(l: &mut Lane, road: Road, first: u64) -> u32
 }
 
 pub fn enter(l: &mut Lane, c: Carrier) -> Entered
-    ensures { Gives (enter-call c) l.old (entered result) l.new }
+    ensures { Gives (enter_call c) l.old (entered result) l.new }
 {
     let k = rules::check_enter(l, c);
     if k.no != 0 {
@@ -230,7 +230,7 @@ pub fn enter(l: &mut Lane, c: Carrier) -> Entered
 }
 
 pub fn leave(l: &mut Lane, number: u64) -> u32
-    ensures { Gives (leave-call number) l.old (bare result []) l.new }
+    ensures { Gives (leave_call number) l.old (bare result []) l.new }
 {
     let k = rules::check_named(l, number);
     if k.no != 0 {
@@ -242,7 +242,7 @@ pub fn leave(l: &mut Lane, number: u64) -> u32
 
 // Another surface code between cycles.
 pub fn surface(l: &mut Lane, code: u64) -> u32
-    ensures given { Gives (surface-call code) l.old (bare result []) l.new }
+    ensures given { Gives (surface_call code) l.old (bare result []) l.new }
     ensures words { result ≡ 0 → l.new ≡ with_code code l.old }
 {
     let no = weather::surface_refusal(l, code);
@@ -255,7 +255,7 @@ pub fn surface(l: &mut Lane, code: u64) -> u32
 
 // Position and speed of a carrier as doubles.
 pub fn read(l: &Lane, number: u64) -> ReadOut
-    ensures given { Gives (read-call number) l.now (read_out result) l.now }
+    ensures given { Gives (read_call number) l.now (read_out result) l.now }
     ensures exact { result.no ≡ 0 → HasValue result.reading.position false (named_carrier (state_of l.now) number).position 2048 × HasValue result.reading.speed false (named_carrier (state_of l.now) number).speed 128 }
 {
     let k = rules::check_named(l, number);
@@ -274,7 +274,7 @@ pub fn read(l: &Lane, number: u64) -> ReadOut
 
 // Where in a gap a newcomer could enter.
 pub fn find_opening(l: &Lane, gap: Gap, newcomer: Newcomer) -> Opening
-    ensures { Gives (opening-call gap newcomer) l.now (opening result) l.now }
+    ensures { Gives (opening_call gap newcomer) l.now (opening result) l.now }
 {
     let asked = openings::check_opening(l, gap, newcomer);
     let place = asked.place;
@@ -291,7 +291,7 @@ pub fn find_opening(l: &Lane, gap: Gap, newcomer: Newcomer) -> Opening
 
 // The lane text into a lent buffer, and its length.
 pub fn lane_text(l: &Lane, out: &mut [u8]) -> Listed
-    ensures { Gives (text-call out.old) l.now (listed result out.new) l.now }
+    ensures { Gives (text_call out.old) l.now (listed result out.new) l.now }
 {
     if rules::breaks_rule(l) {
         return Listed { no: 21, length: 0 };
@@ -305,7 +305,7 @@ pub fn lane_text(l: &Lane, out: &mut [u8]) -> Listed
 
 // The whole lane as text into a lent buffer, and its length.
 pub fn handover(l: &Lane, out: &mut [u8]) -> Listed
-    ensures { Gives (handover-call out.old) l.now (listed result out.new) l.now }
+    ensures { Gives (handover_call out.old) l.now (listed result out.new) l.now }
 {
     if rules::breaks_rule(l) {
         return Listed { no: 21, length: 0 };
@@ -333,7 +333,7 @@ pub fn take_over(l: &mut Lane, text: &[u8]) -> u32
 
 // One cycle. The first `count` wishes are looked at.
 pub fn cycle(l: &mut Lane, count: usize, wishes: [Wish; 64]) -> Cycled
-    ensures { Gives (cycle-call count wishes) l.old (cycled result) l.new }
+    ensures { Gives (cycle_call count wishes) l.old (cycled result) l.new }
 {
     let no = rules::check_ready(l, count);
     if no != 0 {

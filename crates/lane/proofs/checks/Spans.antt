@@ -9,7 +9,7 @@ use borrow.Author.Tests.{le-leb, lt-leb, lt-ltb, le-ltb, leb-true, ltb-true, eqb
 use lib.Dec.{eqb, leb, ltb}
 use Rattle.lane.specs.Limits.{positions}
 use Rattle.lane.proofs.lists.Passed.{both}
-use Rattle.lane.specs.Opening.{lowest_below, highest_below, Span, nowhere, span_of}
+use Rattle.lane.specs.Opening.{lowest_below, highest_below, nowhere, span_of}
 
 -- the first that passes is the lowest,
 pub lowest_first : (bound : ℕ) (test : ℕ → Bool) (m : ℕ) → m < bound → test m ≡ true → ((n : ℕ) → n < m → test n ≡ false) → lowest_below bound test ≡ m

@@ -1,0 +1,17 @@
+use mathlib.Core.Path.{◌≡◌}
+use Prim.Native.Nat.{◌-◌, ◌≤◌}
+use lib.ListN.{length, take}
+use lib.Seq.{slice}
+use Rattle.lane.specs.Layout.{records_in}
+use Rattle.lane.specs.Given.{wishes_made, any_unknown}
+use Rattle.lane.proofs.driving.Converting.{Converting}
+use Rattle.lane.proofs.given.convert.Given as goal
+
+abbrev pub invariant-loop-i : goal.invariant-loop-i
+invariant-loop-i l =
+    ((l.count ≤ length l.sorts) × (l.count ≤ length l.values))
+    × ((any_unknown (take l.count l.sorts) (take l.count l.values) ≡ any_unknown (slice l.i l.count l.sorts) (slice l.i l.count l.values))
+    × Converting l.count (records_in l.l) (wishes_made l.sorts l.values) l.units l.i)
+
+abbrev pub decreases-loop-i : goal.decreases-loop-i
+decreases-loop-i l = l.count - l.i
