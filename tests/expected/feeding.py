@@ -73,7 +73,7 @@ def ends(program, text, output, **options):
 
 
 def output_closed(program, text, **options):
-    """Nobody reads: by default a write then ends the program by a signal."""
+    """Nobody reads, and the signal of that is as a process begins with it."""
     reading, writing = os.pipe()
     os.close(reading)
     try:

@@ -1,14 +1,15 @@
-// The C library's read, write and close, made to move few bytes, to be interrupted, to be too early and to fail, as the environment says. To be
+// The C library's read, write and fsync, made to move few bytes, to be interrupted, to be too early and to fail, as the environment says. To be
 // preloaded. Only standard input and standard output are touched.
 //   READ_PIECE, WRITE_PIECE      most bytes that a call moves
 //   READ_SIGNALS, WRITE_SIGNALS  how many calls are interrupted before each that goes through
 //   READ_WAITS, WRITE_WAITS      how many calls find the descriptor not ready before each that goes through, after the interrupted ones
 //   READ_FAILS, WRITE_FAILS      the call that fails, counted from 1 among those that go through
 //   WRITE_NOTHING                the call that writes no byte and sets no error, so counted
-//   CLOSE_FAILS                  1: the close of standard output fails
+//   CLOSE_FAILS                  1: the file under standard output is not kept, which an fsync of it tells, by any descriptor
 #define _GNU_SOURCE
 #include <errno.h>
 #include <stdlib.h>
+#include <sys/stat.h>
 #include <sys/syscall.h>
 #include <unistd.h>
 
@@ -60,11 +61,17 @@ ssize_t write(int fd, const void *bytes, size_t count)
     return fd == output.fd ? moved(&output, (long)bytes, count) : syscall(SYS_write, fd, bytes, count);
 }
 
-int close(int fd)
+static int same_file(int fd, int other)
 {
-    if (fd == output.fd && setting("CLOSE_FAILS")) {
+    struct stat one, two;
+    return !fstat(fd, &one) && !fstat(other, &two) && one.st_dev == two.st_dev && one.st_ino == two.st_ino;
+}
+
+int fsync(int fd)
+{
+    if (setting("CLOSE_FAILS") && same_file(fd, output.fd)) {
         errno = EIO;
         return -1;
     }
-    return syscall(SYS_close, fd);
+    return syscall(SYS_fsync, fd);
 }

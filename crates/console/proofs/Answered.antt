@@ -7,6 +7,7 @@ use Prim.Native.Nat.{ℕ, zero, suc, ◌+◌, ◌≤◌, ◌<◌}
 use native.Mathlib.Omega.{arith}
 use borrow.Author.Tests.{leb-true, ltb-true, ltb-false}
 use contract.Lifetimes.{Lfts}
+use denote.Bor.{Bor}
 use denote.Ref.{MutBor, at_last}
 use lib.Dec.{eqb, leb, ltb}
 use lib.ListN.{length, take, drop, replicate, length-replicate}
@@ -17,7 +18,7 @@ use Rattle.lane.proofs.empty.Reads as empty-reads
 use Rattle.lane.proofs.Answerable.{gives_some}
 use Rattle.history.specs.Book.{begun}
 use Rattle.history.specs.History.{Event, calls_in, Throughout, SurfaceChanges, NeverBroken}
-use Rattle.history.proofs.Answered.{lent}
+use Rattle.history.proofs.Answered.{lent, shown}
 use Rattle.console.specs.declared.Stepped.{Stepped}
 use Rattle.console.specs.Limits.{answer_space}
 use Rattle.console.specs.Blocks.{Parsed, parsed, malformed, block_in}
@@ -120,7 +121,7 @@ module _ (input : List ℕ) where
         record {
           κs = ([], ([], ([], tt)));
           lane = lent l;
-          text = lent input;
+          text = shown input;
           out = lent space;
           lane_is = refl;
           text_is = refl;
@@ -188,7 +189,7 @@ every_input_claimed input =
 
 -- for every reference and every argument a contract asks nothing of its caller, and what it then says, of a buffer that is long enough, is a part
 -- of a run; and the parts may be joined, whatever they are
-pub each_contract : (κ : Lfts 1) (κs : Lfts 3) (l : MutBor Words) (m : Words) (text out : MutBor (List ℕ)) (at : ℕ) (input : List ℕ)
+pub each_contract : (κ : Lfts 1) (κs : Lfts 3) (l : MutBor Words) (m : Words) (text : Bor (List ℕ)) (out : MutBor (List ℕ)) (at : ℕ) (input : List ℕ)
     → (step-reads.Asked κs (l, (text, (at, (out, tt)))) × ((r : Stepped) (left : List ℕ) → answer_space ≤ length out.now → step-reads.Learnt κs (l, (text, (at, (out, tt)))) r (at_last l m, (text, (at, (at_last out left, tt)))) → Called text.now l.now at r m left))
     × (long-reads.Asked κ (length input, (out, tt)) × ((w : ℕ) (left : List ℕ) → answer_space ≤ length out.now → long-reads.Learnt κ (length input, (out, tt)) w (length input, (at_last out left, tt)) → Measured input w left))
     × (empty-reads.Asked κ (l, tt) × (empty-reads.Learnt κ (l, tt) tt (at_last l m, tt) → Emptied m))

@@ -7,6 +7,7 @@ use native.Mathlib.Nat.{zero-add}
 use native.Mathlib.Decide.{dec_lt}
 use native.Mathlib.Omega.{arith}
 use contract.Lifetimes.{Lfts}
+use denote.Bor.{Bor}
 use denote.Ref.{MutBor, at_last}
 use lib.ListN.{length, take, drop, length-drop}
 use lib.Seq.{drop-drop}
@@ -30,7 +31,7 @@ use Rattle.console.proofs.step.Reads as step-reads
 pub record Called (input : List ℕ) (before : Words) (at : ℕ) (r : Stepped) (after : Words) (left : List ℕ) : Type 0 where
   pub κs : Lfts 3
   pub lane : MutBor Words
-  pub text : MutBor (List ℕ)
+  pub text : Bor (List ℕ)
   pub out : MutBor (List ℕ)
   pub lane_is : lane.now ≡ before
   pub text_is : text.now ≡ input

@@ -5,6 +5,7 @@ use mathlib.Core.Bool.{true, false}
 use mathlib.Core.List.{List, [], ◌∷◌}
 use Prim.Native.Nat.{ℕ}
 use contract.Lifetimes.{Lfts}
+use denote.Bor.{Bor}
 use denote.Ref.{MutBor, at_last}
 use lib.Ieee.Exact.{HasValue}
 use lib.ListN.{length}
@@ -38,13 +39,16 @@ use Rattle.lane.proofs.Answerable.{gives_some, surface_words_is, returned, read_
 use Rattle.history.specs.Book.{begun_from}
 use Rattle.history.specs.Begins.{Begins, from_text}
 use Rattle.history.specs.Claims.{kind_of}
-use Rattle.history.specs.History.{Event, OfLane, OfBoth, Did, Ran, none_yet, then, Typed, AllTyped, HistoryOf}
+use Rattle.history.specs.History.{Event, shared, exclusive, OfLane, OfBoth, Did, Ran, none_yet, then, Typed, AllTyped, HistoryOf}
 
 -- ---- every list has a history
 
--- a reference to what is lent
+-- references to what is lent
 abbrev pub lent : {X : Type 0} → X → MutBor X
 lent x = record { ref_ptr = (0, 0); ghost_name = 0; now = x }
+
+abbrev pub shown : {X : Type 0} → X → Bor X
+shown x = record { ref_ptr = (0, 0); now = x }
 
 -- the lane that it leaves, and its answer in the form of its function
 module _ (x : Call) (l : Words) where
@@ -59,19 +63,27 @@ module _ (x : Call) (l : Words) where
   reads_as {a} r e = subst (λ (m : Words). Gives x l a m) ((gives_some x l).2 r) (gives_as e)
 
 -- said of the lane behind a reference
-pub of_lane : (κ : Lfts 1) (l : MutBor Words) {Says : Lfts 1 → MutBor Words → Type 0} → Says κ l → OfLane l.now Says
-of_lane κ l s = record { κs = κ; lane = l; before = refl; says = s }
+pub of_lane : {R : Type 0} (behind : R → Words) (κ : Lfts 1) (l : R) {Says : Lfts 1 → R → Type 0} → Says κ l → OfLane behind (behind l) Says
+of_lane behind κ l s = record { κs = κ; lane = l; before = refl; says = s }
 
--- a lane lent to a call, as the contract of its function has it
-pub lends : {l : Words} {Says : Lfts 1 → MutBor Words → Type 0} → Says ([], tt) (lent l) → OfLane l Says
-lends {l} s = of_lane ([], tt) (lent l) s
+-- a lane lent to a call, as the contract of its function has it, or shown to one
+pub lends : {l : Words} {Says : Lfts 1 → MutBor Words → Type 0} → Says ([], tt) (lent l) → OfLane exclusive l Says
+lends {l} s = of_lane exclusive ([], tt) (lent l) s
+
+pub shows : {l : Words} {Says : Lfts 1 → Bor Words → Type 0} → Says ([], tt) (shown l) → OfLane shared l Says
+shows {l} s = of_lane shared ([], tt) (shown l) s
 
 -- the same of a lane and bytes
-pub of_both : (κs : Lfts 2) (l : MutBor Words) (bytes : MutBor (List ℕ)) {Says : Lfts 2 → MutBor Words → MutBor (List ℕ) → Type 0} → Says κs l bytes → OfBoth l.now bytes.now Says
-of_both κs l bytes s = record { κs = κs; lane = l; beside = bytes; before = refl; lent = refl; says = s }
+pub of_both : {R S : Type 0} (behind : R → Words) (held : S → List ℕ) (κs : Lfts 2) (l : R) (bytes : S) {Says : Lfts 2 → R → S → Type 0}
+    → Says κs l bytes → OfBoth behind held (behind l) (held bytes) Says
+of_both behind held κs l bytes s = record { κs = κs; lane = l; beside = bytes; before = refl; lent = refl; says = s }
 
-pub lends_both : {l : Words} {bytes : List ℕ} {Says : Lfts 2 → MutBor Words → MutBor (List ℕ) → Type 0} → Says ([], ([], tt)) (lent l) (lent bytes) → OfBoth l bytes Says
-lends_both {l} {bytes} s = of_both ([], ([], tt)) (lent l) (lent bytes) s
+-- a lane lent with a text shown, and a lane shown with a buffer lent
+pub lends_reading : {l : Words} {bytes : List ℕ} {Says : Lfts 2 → MutBor Words → Bor (List ℕ) → Type 0} → Says ([], ([], tt)) (lent l) (shown bytes) → OfBoth exclusive shared l bytes Says
+lends_reading {l} {bytes} s = of_both exclusive shared ([], ([], tt)) (lent l) (shown bytes) s
+
+pub shows_writing : {l : Words} {bytes : List ℕ} {Says : Lfts 2 → Bor Words → MutBor (List ℕ) → Type 0} → Says ([], ([], tt)) (shown l) (lent bytes) → OfBoth shared exclusive l bytes Says
+shows_writing {l} {bytes} s = of_both shared exclusive ([], ([], tt)) (shown l) (lent bytes) s
 
 -- the two doubles of a read
 abbrev pub Exact : (s : State) (number : ℕ) → Answer → Type 0
@@ -89,7 +101,7 @@ did (start_call road first) l t = let x = start_call road first in let r = retur
 did (load_call text) l t =
     let x = load_call text in
     let r = returned x (state_of l) in
-    lends_both (r.0, r.1, gives_as x l r.1)
+    lends_reading (r.0, r.1, gives_as x l r.1)
 did (enter_call c) l t = let x = enter_call c in let r = returned x (state_of l) in lends (r.0, r.1, gives_as x l r.1)
 did (leave_call number) l t = let x = leave_call number in let r = returned x (state_of l) in lends (r.0, r.1, gives_as x l r.1)
 did (surface_call code) l t =
@@ -101,19 +113,19 @@ did (cycle_call count wishes) l t =
 did (read_call number) l t =
     let x = read_call number in
     let r = returned x (state_of l) in
-    ((gives_some x l).2 refl, lends (r.0, r.1, (reads_as x l refl r.1, subst (Exact (state_of l) number) r.1 (read_exact (state_of l) number))))
+    ((gives_some x l).2 refl, shows (r.0, r.1, (reads_as x l refl r.1, subst (Exact (state_of l) number) r.1 (read_exact (state_of l) number))))
 did (opening_call g n) l t =
     let x = opening_call g n in
     let r = returned x (state_of l) in
-    ((gives_some x l).2 refl, lends (r.0, r.1, reads_as x l refl r.1))
+    ((gives_some x l).2 refl, shows (r.0, r.1, reads_as x l refl r.1))
 did (text_call buffer) l t =
     let x = text_call buffer in
     let r = returned x (state_of l) in
-    ((gives_some x l).2 refl, lends_both (r.0, r.1, reads_as x l refl r.1))
+    ((gives_some x l).2 refl, shows_writing (r.0, r.1, reads_as x l refl r.1))
 did (handover_call buffer) l t =
     let x = handover_call buffer in
     let r = returned x (state_of l) in
-    ((gives_some x l).2 refl, lends_both (r.0, r.1, reads_as x l refl r.1))
+    ((gives_some x l).2 refl, shows_writing (r.0, r.1, reads_as x l refl r.1))
 
 pub every_list : (l : Words) (xs : List Call) → AllTyped xs → HistoryOf l xs
 every_list l [] t = record { events = []; last = l; calls = refl; ran = none_yet }
@@ -130,30 +142,30 @@ every_list l (x ∷ xs) t =
 
 -- for every reference and every argument a contract asks nothing of its caller, and what it then says of an answer and of the lane left is a
 -- step, or for `take_over` the beginning of a list; and every step may go before every list
-pub each_contract : (κ : Lfts 1) (κs : Lfts 2) (l : MutBor Words) (m : Words) (road : Road) (c : Carrier) (n : ℕ) (ws : List Wish) (g : Gap) (newcomer : Newcomer) (out : MutBor (List ℕ))
+pub each_contract : (κ : Lfts 1) (κs : Lfts 2) (l : MutBor Words) (seen : Bor Words) (m : Words) (road : Road) (c : Carrier) (n : ℕ) (ws : List Wish) (g : Gap) (newcomer : Newcomer) (text : Bor (List ℕ)) (out : MutBor (List ℕ))
     → (start-reads.Asked κ (l, (road, (n, tt))) × ((no : ℕ) → start-reads.Learnt κ (l, (road, (n, tt))) no (at_last l m, (road, (n, tt))) → Did (start_call road n) l.now (bare no []) m))
-    × (load-reads.Asked κs (l, (out, tt)) × ((no : ℕ) → load-reads.Learnt κs (l, (out, tt)) no (at_last l m, (out, tt)) → Did (load_call out.now) l.now (bare no []) m))
+    × (load-reads.Asked κs (l, (text, tt)) × ((no : ℕ) → load-reads.Learnt κs (l, (text, tt)) no (at_last l m, (text, tt)) → Did (load_call text.now) l.now (bare no []) m))
     × (enter-reads.Asked κ (l, (c, tt)) × ((r : Entered) → enter-reads.Learnt κ (l, (c, tt)) r (at_last l m, (c, tt)) → Did (enter_call c) l.now (entered r) m))
     × (leave-reads.Asked κ (l, (n, tt)) × ((no : ℕ) → leave-reads.Learnt κ (l, (n, tt)) no (at_last l m, (n, tt)) → Did (leave_call n) l.now (bare no []) m))
     × (surface-reads.Asked κ (l, (n, tt)) × ((no : ℕ) → surface-reads.Learnt κ (l, (n, tt)) no (at_last l m, (n, tt)) → Did (surface_call n) l.now (bare no []) m))
     × (cycle-reads.Asked κ (l, (n, (ws, tt))) × (length ws ≡ 64 → (r : Cycled) → cycle-reads.Learnt κ (l, (n, (ws, tt))) r (at_last l m, (n, (ws, tt))) → Did (cycle_call n ws) l.now (cycled r) m))
-    × (read-reads.Asked κ (l, (n, tt)) × ((r : ReadOut) → read-reads.Learnt κ (l, (n, tt)) r (l, (n, tt)) → Did (read_call n) l.now (read_out r) l.now))
-    × (opening-reads.Asked κ (l, (g, (newcomer, tt))) × ((r : Opening) → opening-reads.Learnt κ (l, (g, (newcomer, tt))) r (l, (g, (newcomer, tt))) → Did (opening_call g newcomer) l.now (opening r) l.now))
-    × (text-reads.Asked κs (l, (out, tt)) × ((r : Listed) (bytes : List ℕ) → text-reads.Learnt κs (l, (out, tt)) r (l, (at_last out bytes, tt)) → Did (text_call out.now) l.now (listed r bytes) l.now))
-    × (handover-reads.Asked κs (l, (out, tt)) × ((r : Listed) (bytes : List ℕ) → handover-reads.Learnt κs (l, (out, tt)) r (l, (at_last out bytes, tt)) → Did (handover_call out.now) l.now (listed r bytes) l.now))
-    × (take-over-reads.Asked κs (l, (out, tt)) × ((no : ℕ) → take-over-reads.Learnt κs (l, (out, tt)) no (at_last l m, (out, tt)) → Begins m (begun_from out.now)))
+    × (read-reads.Asked κ (seen, (n, tt)) × ((r : ReadOut) → read-reads.Learnt κ (seen, (n, tt)) r (seen, (n, tt)) → Did (read_call n) seen.now (read_out r) seen.now))
+    × (opening-reads.Asked κ (seen, (g, (newcomer, tt))) × ((r : Opening) → opening-reads.Learnt κ (seen, (g, (newcomer, tt))) r (seen, (g, (newcomer, tt))) → Did (opening_call g newcomer) seen.now (opening r) seen.now))
+    × (text-reads.Asked κs (seen, (out, tt)) × ((r : Listed) (bytes : List ℕ) → text-reads.Learnt κs (seen, (out, tt)) r (seen, (at_last out bytes, tt)) → Did (text_call out.now) seen.now (listed r bytes) seen.now))
+    × (handover-reads.Asked κs (seen, (out, tt)) × ((r : Listed) (bytes : List ℕ) → handover-reads.Learnt κs (seen, (out, tt)) r (seen, (at_last out bytes, tt)) → Did (handover_call out.now) seen.now (listed r bytes) seen.now))
+    × (take-over-reads.Asked κs (l, (text, tt)) × ((no : ℕ) → take-over-reads.Learnt κs (l, (text, tt)) no (at_last l m, (text, tt)) → Begins m (begun_from text.now)))
     × ((e : Event) (es : List Event) (d : Words) → Did e.call l.now e.answer e.left → Ran e.left es d → Ran l.now (e ∷ es) d)
-each_contract κ κs l m road c n ws g newcomer out = (
-  (tt, λ no s. of_lane κ l (no, refl, s)),
-  (tt, λ no s. of_both κs l out (no, refl, s)),
-  (tt, λ r s. of_lane κ l (r, refl, s)),
-  (tt, λ no s. of_lane κ l (no, refl, s)),
-  (tt, λ no s. of_lane κ l (no, refl, s)),
-  (tt, λ e r s. (e, of_lane κ l (r, refl, s))),
-  (tt, λ r s. (refl, of_lane κ l (r, refl, s))),
-  (tt, λ r s. (refl, of_lane κ l (r, refl, s))),
-  (tt, λ r bytes s. (refl, of_both κs l out (r, refl, s))),
-  (tt, λ r bytes s. (refl, of_both κs l out (r, refl, s))),
-  (tt, λ no s. from_text out.now no m s),
+each_contract κ κs l seen m road c n ws g newcomer text out = (
+  (tt, λ no s. of_lane exclusive κ l (no, refl, s)),
+  (tt, λ no s. of_both exclusive shared κs l text (no, refl, s)),
+  (tt, λ r s. of_lane exclusive κ l (r, refl, s)),
+  (tt, λ no s. of_lane exclusive κ l (no, refl, s)),
+  (tt, λ no s. of_lane exclusive κ l (no, refl, s)),
+  (tt, λ e r s. (e, of_lane exclusive κ l (r, refl, s))),
+  (tt, λ r s. (refl, of_lane shared κ seen (r, refl, s))),
+  (tt, λ r s. (refl, of_lane shared κ seen (r, refl, s))),
+  (tt, λ r bytes s. (refl, of_both shared exclusive κs seen out (r, refl, s))),
+  (tt, λ r bytes s. (refl, of_both shared exclusive κs seen out (r, refl, s))),
+  (tt, λ no s. from_text text.now no m s),
   λ e es d h r. then h r,
 )

@@ -1,6 +1,7 @@
 -- A history: calls with what they answered and the lane that each left, each on the lane that the one before left, and demand 3 along it.
 use Rattle.std.specs.Prelude.{ℕ, suc, ◌≤◌, ◌<◌, ◌≡◌, Bool, true, false, not, ◌&&◌, ◌||◌, List, [], ◌∷◌, ◌++◌, map, eqb, length}
 use contract.Lifetimes.{Lfts}
+use denote.Bor.{Bor}
 use denote.Ref.{MutBor, at_last}
 use Rattle.lane.specs.declared.Cycled.{Cycled}
 use Rattle.lane.specs.declared.Entered.{Entered}
@@ -47,47 +48,54 @@ book_on b (e ∷ es) = book_on (booked (seen e) b) es
 
 -- ---- what a contract says of a call
 
+-- what stands behind a reference: a shared one, and one by which it may change
+abbrev pub shared : {X : Type 0} → Bor X → X
+shared r = r.now
+
+abbrev pub exclusive : {X : Type 0} → MutBor X → X
+exclusive r = r.now
+
 -- a reference to a lane with these words behind it before the call, and what is said of it
-pub record OfLane (l : Words) (Says : Lfts 1 → MutBor Words → Type 0) : Type 0 where
+pub record OfLane {R : Type 0} (behind : R → Words) (l : Words) (Says : Lfts 1 → R → Type 0) : Type 0 where
   pub κs : Lfts 1
-  pub lane : MutBor Words
-  pub before : lane.now ≡ l
+  pub lane : R
+  pub before : behind lane ≡ l
   pub says : Says κs lane
 
 -- one to a lane and one to the bytes of a buffer or a text
-pub record OfBoth (l : Words) (bytes : List ℕ) (Says : Lfts 2 → MutBor Words → MutBor (List ℕ) → Type 0) : Type 0 where
+pub record OfBoth {R S : Type 0} (behind : R → Words) (held : S → List ℕ) (l : Words) (bytes : List ℕ) (Says : Lfts 2 → R → S → Type 0) : Type 0 where
   pub κs : Lfts 2
-  pub lane : MutBor Words
-  pub beside : MutBor (List ℕ)
-  pub before : lane.now ≡ l
-  pub lent : beside.now ≡ bytes
+  pub lane : R
+  pub beside : S
+  pub before : behind lane ≡ l
+  pub lent : held beside ≡ bytes
   pub says : Says κs lane beside
 
 -- what the contract of the function called says of its arguments, its answer and the lane that it left; the wishes are an array of 64
 abbrev pub Did : Call → Words → Answer → Words → Type 0
 Did (start_call road first) l a m =
-    OfLane l λ κs lane. (no : ℕ) × (a ≡ bare no []) × start-reads.Learnt κs (lane, (road, (first, tt))) no (at_last lane m, (road, (first, tt)))
+    OfLane exclusive l λ κs lane. (no : ℕ) × (a ≡ bare no []) × start-reads.Learnt κs (lane, (road, (first, tt))) no (at_last lane m, (road, (first, tt)))
 Did (load_call text) l a m =
-    OfBoth l text λ κs lane t. (no : ℕ) × (a ≡ bare no []) × load-reads.Learnt κs (lane, (t, tt)) no (at_last lane m, (t, tt))
+    OfBoth exclusive shared l text λ κs lane t. (no : ℕ) × (a ≡ bare no []) × load-reads.Learnt κs (lane, (t, tt)) no (at_last lane m, (t, tt))
 Did (enter_call c) l a m =
-    OfLane l λ κs lane. (r : Entered) × (a ≡ entered r) × enter-reads.Learnt κs (lane, (c, tt)) r (at_last lane m, (c, tt))
+    OfLane exclusive l λ κs lane. (r : Entered) × (a ≡ entered r) × enter-reads.Learnt κs (lane, (c, tt)) r (at_last lane m, (c, tt))
 Did (leave_call number) l a m =
-    OfLane l λ κs lane. (no : ℕ) × (a ≡ bare no []) × leave-reads.Learnt κs (lane, (number, tt)) no (at_last lane m, (number, tt))
+    OfLane exclusive l λ κs lane. (no : ℕ) × (a ≡ bare no []) × leave-reads.Learnt κs (lane, (number, tt)) no (at_last lane m, (number, tt))
 Did (surface_call code) l a m =
-    OfLane l λ κs lane. (no : ℕ) × (a ≡ bare no []) × surface-reads.Learnt κs (lane, (code, tt)) no (at_last lane m, (code, tt))
+    OfLane exclusive l λ κs lane. (no : ℕ) × (a ≡ bare no []) × surface-reads.Learnt κs (lane, (code, tt)) no (at_last lane m, (code, tt))
 Did (cycle_call count wishes) l a m =
     (length wishes ≡ 64)
-    × OfLane l (λ κs lane. (r : Cycled) × (a ≡ cycled r) × cycle-reads.Learnt κs (lane, (count, (wishes, tt))) r (at_last lane m, (count, (wishes, tt))))
+    × OfLane exclusive l (λ κs lane. (r : Cycled) × (a ≡ cycled r) × cycle-reads.Learnt κs (lane, (count, (wishes, tt))) r (at_last lane m, (count, (wishes, tt))))
 Did (read_call number) l a m =
-    (m ≡ l) × OfLane l (λ κs lane. (r : ReadOut) × (a ≡ read_out r) × read-reads.Learnt κs (lane, (number, tt)) r (lane, (number, tt)))
+    (m ≡ l) × OfLane shared l (λ κs lane. (r : ReadOut) × (a ≡ read_out r) × read-reads.Learnt κs (lane, (number, tt)) r (lane, (number, tt)))
 Did (opening_call g n) l a m =
-    (m ≡ l) × OfLane l (λ κs lane. (r : Opening) × (a ≡ opening r) × opening-reads.Learnt κs (lane, (g, (n, tt))) r (lane, (g, (n, tt))))
+    (m ≡ l) × OfLane shared l (λ κs lane. (r : Opening) × (a ≡ opening r) × opening-reads.Learnt κs (lane, (g, (n, tt))) r (lane, (g, (n, tt))))
 Did (text_call buffer) l a m =
     (m ≡ l)
-    × OfBoth l buffer (λ κs lane out. (r : Listed) × (a ≡ listed r a.bytes) × text-reads.Learnt κs (lane, (out, tt)) r (lane, (at_last out a.bytes, tt)))
+    × OfBoth shared exclusive l buffer (λ κs lane out. (r : Listed) × (a ≡ listed r a.bytes) × text-reads.Learnt κs (lane, (out, tt)) r (lane, (at_last out a.bytes, tt)))
 Did (handover_call buffer) l a m =
     (m ≡ l)
-    × OfBoth l buffer (λ κs lane out. (r : Listed) × (a ≡ listed r a.bytes) × handover-reads.Learnt κs (lane, (out, tt)) r (lane, (at_last out a.bytes, tt)))
+    × OfBoth shared exclusive l buffer (λ κs lane out. (r : Listed) × (a ≡ listed r a.bytes) × handover-reads.Learnt κs (lane, (out, tt)) r (lane, (at_last out a.bytes, tt)))
 
 -- a list of calls, each on the lane that the one before left, each answered as its contract says
 pub data Ran : Words → List Event → Words → Type 0 where

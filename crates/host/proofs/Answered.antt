@@ -6,6 +6,7 @@ use mathlib.Core.List.{List, [], ◌∷◌, ◌++◌}
 use Prim.Native.Nat.{ℕ}
 use borrow.Author.Tests.{eqb-true, eqb-false}
 use contract.Lifetimes.{Lfts}
+use denote.Bor.{Bor}
 use denote.Ref.{MutBor, at_last}
 use lib.Dec.{eqb}
 use lib.ListN.{drop}
@@ -26,11 +27,11 @@ use Rattle.lane.proofs.Answerable.{gives_some, returned, read_exact}
 use Rattle.lane.proofs.HandoverLaws.{takes_some}
 use Rattle.history.specs.Book.{Book, begun, begun_from}
 use Rattle.history.specs.Begins.{Begins}
-use Rattle.history.specs.History.{Event, calls_in, Throughout, SurfaceChanges, NeverBroken}
+use Rattle.history.specs.History.{shared, exclusive, Event, calls_in, Throughout, SurfaceChanges, NeverBroken}
 use Rattle.history.specs.Openings.{Openings}
 use Rattle.history.specs.Handovers.{Handovers}
 use Rattle.history.specs.Readings.{Reading}
-use Rattle.history.proofs.Answered.{of_lane, of_both, lent, left, gives_as, reads_as, lends, lends_both, Exact, surface_puts}
+use Rattle.history.proofs.Answered.{of_lane, of_both, lent, shown, left, gives_as, reads_as, lends, shows, lends_reading, shows_writing, Exact, surface_puts}
 use Rattle.console.specs.declared.Stepped.{Stepped}
 use Rattle.console.specs.History.{block_run}
 use Rattle.console.proofs.Answered.{every_step}
@@ -72,8 +73,8 @@ module _ (l : Words) (count : ℕ) (sorts values : List ℕ) where
       record {
         κs = ([], ([], ([], tt)));
         lane = lent l;
-        of_sorts = lent sorts;
-        of_values = lent values;
+        of_sorts = shown sorts;
+        of_values = shown values;
         before = refl;
         sorts_are = refl;
         values_are = refl;
@@ -97,7 +98,7 @@ host_does (starts road first) l =
 host_does (loads text) l =
     let x = load_call text in
     let r = returned x (state_of l) in
-    record { answer = bare r.0 []; after = left x l; did = lends_both (r.0, refl, gives_as x l r.1) }
+    record { answer = bare r.0 []; after = left x l; did = lends_reading (r.0, refl, gives_as x l r.1) }
 host_does (enters c) l =
     let x = enter_call c in
     let r = returned x (state_of l) in
@@ -119,19 +120,19 @@ host_does (reads number) l =
     record {
       answer = read_out r.0;
       after = left x l;
-      did = ((gives_some x l).2 refl, lends (r.0, refl, (reads_as x l refl r.1, subst (Exact (state_of l) number) r.1 (read_exact (state_of l) number))));
+      did = ((gives_some x l).2 refl, shows (r.0, refl, (reads_as x l refl r.1, subst (Exact (state_of l) number) r.1 (read_exact (state_of l) number))));
     }
 host_does (finds head number n) l =
     let x = opening_call (gap_given head number) n in
     let r = returned x (state_of l) in
-    record { answer = opening r.0; after = left x l; did = ((gives_some x l).2 refl, lends (r.0, refl, reads_as x l refl r.1)) }
+    record { answer = opening r.0; after = left x l; did = ((gives_some x l).2 refl, shows (r.0, refl, reads_as x l refl r.1)) }
 host_does (lists buffer) l =
     let x = text_call buffer in
     let r = returned x (state_of l) in
     record {
       answer = listed r.0 (call_answer x (state_of l)).bytes;
       after = left x l;
-      did = ((gives_some x l).2 refl, lends_both (r.0, refl, reads_as x l refl r.1));
+      did = ((gives_some x l).2 refl, shows_writing (r.0, refl, reads_as x l refl r.1));
     }
 host_does (hands buffer) l =
     let x = handover_call buffer in
@@ -139,7 +140,7 @@ host_does (hands buffer) l =
     record {
       answer = listed r.0 (call_answer x (state_of l)).bytes;
       after = left x l;
-      did = ((gives_some x l).2 refl, lends_both (r.0, refl, reads_as x l refl r.1));
+      did = ((gives_some x l).2 refl, shows_writing (r.0, refl, reads_as x l refl r.1));
     }
 host_does (steps input at buffer) l =
     let a = every_step l (drop at input) at buffer in
@@ -151,7 +152,7 @@ host_does (steps input at buffer) l =
         record {
           κs = ([], ([], ([], tt)));
           lane = lent l;
-          text = lent input;
+          text = shown input;
           out = lent buffer;
           before = refl;
           text_is = refl;
@@ -198,7 +199,7 @@ pub every_host_list_from_text : (text : List ℕ) (xs : List HostCall)
 every_host_list_from_text text xs =
     let some = takes_some text in
     let l = some.0 in
-    let t : TookOver text (take_over_no text) l = record { κs = ([], ([], tt)); lane = lent []; read = lent text; text_is = refl; says = some.1 } in
+    let t : TookOver text (take_over_no text) l = record { κs = ([], ([], tt)); lane = lent []; read = shown text; text_is = refl; says = some.1 } in
     let h = every_host_list l xs in
     (l, t, host_readings text (take_over_no text) l t, (h, host_history_from_text text (take_over_no text) l t xs h.events h.last h.ran, λ z. host_taken_for_good text l (subst (λ (n : ℕ). TookOver text n l) z t) xs h.events h.last h.ran))
 
@@ -211,7 +212,7 @@ each_host_call l road first table c number code count head newcomer sorts values
 
 -- for every reference and every argument a contract asks nothing of its caller, and what it then says of an answer and of the lane left is a
 -- step, or for `rondavitse_empty` and `rondavitse_take_over` the beginning of a list; and every step may go before every list
-pub each_contract : (κ : Lfts 1) (κs : Lfts 2) (ks : Lfts 3) (l : MutBor Words) (m : Words) (road : Road) (c : Carrier) (n head : ℕ) (newcomer : Newcomer) (sorts values text out : MutBor (List ℕ)) (at : ℕ)
+pub each_contract : (κ : Lfts 1) (κs : Lfts 2) (ks : Lfts 3) (l : MutBor Words) (seen : Bor Words) (m : Words) (road : Road) (c : Carrier) (n head : ℕ) (newcomer : Newcomer) (sorts values text : Bor (List ℕ)) (out : MutBor (List ℕ)) (at : ℕ)
     → (empty-reads.Asked κ (l, tt) × (empty-reads.Learnt κ (l, tt) tt (at_last l m, tt) → Emptied m))
     × (start-reads.Asked κ (l, (road, (n, tt))) × ((no : ℕ) → start-reads.Learnt κ (l, (road, (n, tt))) no (at_last l m, (road, (n, tt))) → HostDid (starts road n) l.now (bare no []) m))
     × (load-reads.Asked κs (l, (text, tt)) × ((no : ℕ) → load-reads.Learnt κs (l, (text, tt)) no (at_last l m, (text, tt)) → HostDid (loads text.now) l.now (bare no []) m))
@@ -219,25 +220,25 @@ pub each_contract : (κ : Lfts 1) (κs : Lfts 2) (ks : Lfts 3) (l : MutBor Words
     × (leave-reads.Asked κ (l, (n, tt)) × ((no : ℕ) → leave-reads.Learnt κ (l, (n, tt)) no (at_last l m, (n, tt)) → HostDid (leaves n) l.now (bare no []) m))
     × (surface-reads.Asked κ (l, (n, tt)) × ((no : ℕ) → surface-reads.Learnt κ (l, (n, tt)) no (at_last l m, (n, tt)) → HostDid (surfaces n) l.now (bare no []) m))
     × (cycle-reads.Asked ks (l, (n, (sorts, (values, tt)))) × ((r : Cycled) → cycle-reads.Learnt ks (l, (n, (sorts, (values, tt)))) r (at_last l m, (n, (sorts, (values, tt)))) → HostDid (cycles n sorts.now values.now) l.now (cycled r) m))
-    × (read-reads.Asked κ (l, (n, tt)) × ((r : ReadOut) → read-reads.Learnt κ (l, (n, tt)) r (l, (n, tt)) → HostDid (reads n) l.now (read_out r) l.now))
-    × (opening-reads.Asked κ (l, (head, (n, (newcomer, tt)))) × ((r : Opening) → opening-reads.Learnt κ (l, (head, (n, (newcomer, tt)))) r (l, (head, (n, (newcomer, tt)))) → HostDid (finds head n newcomer) l.now (opening r) l.now))
-    × (text-reads.Asked κs (l, (out, tt)) × ((r : Listed) (bytes : List ℕ) → text-reads.Learnt κs (l, (out, tt)) r (l, (at_last out bytes, tt)) → HostDid (lists out.now) l.now (listed r bytes) l.now))
-    × (handover-reads.Asked κs (l, (out, tt)) × ((r : Listed) (bytes : List ℕ) → handover-reads.Learnt κs (l, (out, tt)) r (l, (at_last out bytes, tt)) → HostDid (hands out.now) l.now (listed r bytes) l.now))
+    × (read-reads.Asked κ (seen, (n, tt)) × ((r : ReadOut) → read-reads.Learnt κ (seen, (n, tt)) r (seen, (n, tt)) → HostDid (reads n) seen.now (read_out r) seen.now))
+    × (opening-reads.Asked κ (seen, (head, (n, (newcomer, tt)))) × ((r : Opening) → opening-reads.Learnt κ (seen, (head, (n, (newcomer, tt)))) r (seen, (head, (n, (newcomer, tt)))) → HostDid (finds head n newcomer) seen.now (opening r) seen.now))
+    × (text-reads.Asked κs (seen, (out, tt)) × ((r : Listed) (bytes : List ℕ) → text-reads.Learnt κs (seen, (out, tt)) r (seen, (at_last out bytes, tt)) → HostDid (lists out.now) seen.now (listed r bytes) seen.now))
+    × (handover-reads.Asked κs (seen, (out, tt)) × ((r : Listed) (bytes : List ℕ) → handover-reads.Learnt κs (seen, (out, tt)) r (seen, (at_last out bytes, tt)) → HostDid (hands out.now) seen.now (listed r bytes) seen.now))
     × (take-over-reads.Asked κs (l, (text, tt)) × ((no : ℕ) → take-over-reads.Learnt κs (l, (text, tt)) no (at_last l m, (text, tt)) → TookOver text.now no m))
     × (step-reads.Asked ks (l, (text, (at, (out, tt)))) × ((r : Stepped) (left : List ℕ) → step-reads.Learnt ks (l, (text, (at, (out, tt)))) r (at_last l m, (text, (at, (at_last out left, tt)))) → HostDid (steps text.now at out.now) l.now (step_answer (block_run out.now (drop at text.now)) (state_of l.now)) m))
     × ((x : HostCall) (a : Answer) (xs : List HostCall) (fs : List Event) (d : Words) → HostDid x l.now a m → HostRan m xs fs d → HostRan l.now (x ∷ xs) (events_made x a m ++ fs) d)
-each_contract κ κs ks l m road c n head newcomer sorts values text out at = (
+each_contract κ κs ks l seen m road c n head newcomer sorts values text out at = (
   (tt, λ s. record { κs = κ; lane = l; says = s }),
-  (tt, λ no s. of_lane κ l (no, refl, s)),
-  (tt, λ no s. of_both κs l text (no, refl, s)),
-  (tt, λ r s. of_lane κ l (r, refl, s)),
-  (tt, λ no s. of_lane κ l (no, refl, s)),
-  (tt, λ no s. of_lane κ l (no, refl, s)),
+  (tt, λ no s. of_lane exclusive κ l (no, refl, s)),
+  (tt, λ no s. of_both exclusive shared κs l text (no, refl, s)),
+  (tt, λ r s. of_lane exclusive κ l (r, refl, s)),
+  (tt, λ no s. of_lane exclusive κ l (no, refl, s)),
+  (tt, λ no s. of_lane exclusive κ l (no, refl, s)),
   (tt, λ r s. (r, refl, record { κs = ks; lane = l; of_sorts = sorts; of_values = values; before = refl; sorts_are = refl; values_are = refl; says = s })),
-  (tt, λ r s. (refl, of_lane κ l (r, refl, s))),
-  (tt, λ r s. (refl, of_lane κ l (r, refl, s))),
-  (tt, λ r bytes s. (refl, of_both κs l out (r, refl, s))),
-  (tt, λ r bytes s. (refl, of_both κs l out (r, refl, s))),
+  (tt, λ r s. (refl, of_lane shared κ seen (r, refl, s))),
+  (tt, λ r s. (refl, of_lane shared κ seen (r, refl, s))),
+  (tt, λ r bytes s. (refl, of_both shared exclusive κs seen out (r, refl, s))),
+  (tt, λ r bytes s. (refl, of_both shared exclusive κs seen out (r, refl, s))),
   (tt, λ no s. record { κs = κs; lane = l; read = text; text_is = refl; says = s }),
   (tt, λ r left s. (refl, record { κs = ks; lane = l; text = text; out = out; before = refl; text_is = refl; lent = refl; r = r; left = left; says = s })),
   λ x a xs fs d h r. call a h r,

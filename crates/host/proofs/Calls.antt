@@ -5,6 +5,7 @@ use mathlib.Core.Bool.{cond}
 use mathlib.Core.List.{List, [], ◌∷◌, ◌++◌, map}
 use Prim.Native.Nat.{ℕ}
 use contract.Lifetimes.{Lfts}
+use denote.Bor.{Bor}
 use denote.Ref.{MutBor, at_last}
 use lib.Dec.{eqb}
 use lib.ListN.{drop}
@@ -23,7 +24,7 @@ use Rattle.lane.specs.Given.{wishes_no, wishes_given}
 use Rattle.console.specs.declared.Stepped.{Stepped}
 use Rattle.console.specs.Blocks.{Parsed, parsed, malformed}
 use Rattle.console.specs.History.{block_run, calls_with}
-use Rattle.history.specs.History.{Event, OfLane, OfBoth}
+use Rattle.history.specs.History.{Event, shared, exclusive, OfLane, OfBoth}
 use Rattle.host.specs.Gaps.{gap_given}
 use Rattle.host.proofs.rondavitse_empty.Reads as empty-reads
 use Rattle.host.proofs.rondavitse_start.Reads as start-reads
@@ -75,8 +76,8 @@ events_made x a left = map (λ (y : Call). record { call = y; answer = a; left =
 pub record Cycles (l : Words) (count : ℕ) (sorts values : List ℕ) (r : Cycled) (m : Words) : Type 0 where
   pub κs : Lfts 3
   pub lane : MutBor Words
-  pub of_sorts : MutBor (List ℕ)
-  pub of_values : MutBor (List ℕ)
+  pub of_sorts : Bor (List ℕ)
+  pub of_values : Bor (List ℕ)
   pub before : lane.now ≡ l
   pub sorts_are : of_sorts.now ≡ sorts
   pub values_are : of_values.now ≡ values
@@ -86,7 +87,7 @@ pub record Cycles (l : Words) (count : ℕ) (sorts values : List ℕ) (r : Cycle
 pub record Steps (l : Words) (input : List ℕ) (at : ℕ) (buffer : List ℕ) (m : Words) : Type 0 where
   pub κs : Lfts 3
   pub lane : MutBor Words
-  pub text : MutBor (List ℕ)
+  pub text : Bor (List ℕ)
   pub out : MutBor (List ℕ)
   pub before : lane.now ≡ l
   pub text_is : text.now ≡ input
@@ -103,26 +104,26 @@ step_answer malformed s = bare 0 []
 -- what the contract of the exported function says of its arguments, its answer and the lane that it left
 abbrev pub HostDid : HostCall → Words → Answer → Words → Type 0
 HostDid (starts road first) l a m =
-    OfLane l λ κs lane. (no : ℕ) × (a ≡ bare no []) × start-reads.Learnt κs (lane, (road, (first, tt))) no (at_last lane m, (road, (first, tt)))
+    OfLane exclusive l λ κs lane. (no : ℕ) × (a ≡ bare no []) × start-reads.Learnt κs (lane, (road, (first, tt))) no (at_last lane m, (road, (first, tt)))
 HostDid (loads text) l a m =
-    OfBoth l text λ κs lane t. (no : ℕ) × (a ≡ bare no []) × load-reads.Learnt κs (lane, (t, tt)) no (at_last lane m, (t, tt))
+    OfBoth exclusive shared l text λ κs lane t. (no : ℕ) × (a ≡ bare no []) × load-reads.Learnt κs (lane, (t, tt)) no (at_last lane m, (t, tt))
 HostDid (enters c) l a m =
-    OfLane l λ κs lane. (r : Entered) × (a ≡ entered r) × enter-reads.Learnt κs (lane, (c, tt)) r (at_last lane m, (c, tt))
+    OfLane exclusive l λ κs lane. (r : Entered) × (a ≡ entered r) × enter-reads.Learnt κs (lane, (c, tt)) r (at_last lane m, (c, tt))
 HostDid (leaves number) l a m =
-    OfLane l λ κs lane. (no : ℕ) × (a ≡ bare no []) × leave-reads.Learnt κs (lane, (number, tt)) no (at_last lane m, (number, tt))
+    OfLane exclusive l λ κs lane. (no : ℕ) × (a ≡ bare no []) × leave-reads.Learnt κs (lane, (number, tt)) no (at_last lane m, (number, tt))
 HostDid (surfaces code) l a m =
-    OfLane l λ κs lane. (no : ℕ) × (a ≡ bare no []) × surface-reads.Learnt κs (lane, (code, tt)) no (at_last lane m, (code, tt))
+    OfLane exclusive l λ κs lane. (no : ℕ) × (a ≡ bare no []) × surface-reads.Learnt κs (lane, (code, tt)) no (at_last lane m, (code, tt))
 HostDid (cycles count sorts values) l a m = (r : Cycled) × (a ≡ cycled r) × Cycles l count sorts values r m
 HostDid (reads number) l a m =
-    (m ≡ l) × OfLane l (λ κs lane. (r : ReadOut) × (a ≡ read_out r) × read-reads.Learnt κs (lane, (number, tt)) r (lane, (number, tt)))
+    (m ≡ l) × OfLane shared l (λ κs lane. (r : ReadOut) × (a ≡ read_out r) × read-reads.Learnt κs (lane, (number, tt)) r (lane, (number, tt)))
 HostDid (finds head number n) l a m =
-    (m ≡ l) × OfLane l (λ κs lane. (r : Opening) × (a ≡ opening r) × opening-reads.Learnt κs (lane, (head, (number, (n, tt)))) r (lane, (head, (number, (n, tt)))))
+    (m ≡ l) × OfLane shared l (λ κs lane. (r : Opening) × (a ≡ opening r) × opening-reads.Learnt κs (lane, (head, (number, (n, tt)))) r (lane, (head, (number, (n, tt)))))
 HostDid (lists buffer) l a m =
     (m ≡ l)
-    × OfBoth l buffer (λ κs lane out. (r : Listed) × (a ≡ listed r a.bytes) × text-reads.Learnt κs (lane, (out, tt)) r (lane, (at_last out a.bytes, tt)))
+    × OfBoth shared exclusive l buffer (λ κs lane out. (r : Listed) × (a ≡ listed r a.bytes) × text-reads.Learnt κs (lane, (out, tt)) r (lane, (at_last out a.bytes, tt)))
 HostDid (hands buffer) l a m =
     (m ≡ l)
-    × OfBoth l buffer (λ κs lane out. (r : Listed) × (a ≡ listed r a.bytes) × handover-reads.Learnt κs (lane, (out, tt)) r (lane, (at_last out a.bytes, tt)))
+    × OfBoth shared exclusive l buffer (λ κs lane out. (r : Listed) × (a ≡ listed r a.bytes) × handover-reads.Learnt κs (lane, (out, tt)) r (lane, (at_last out a.bytes, tt)))
 HostDid (steps input at buffer) l a m = (a ≡ step_answer (block_run buffer (drop at input)) (state_of l)) × Steps l input at buffer m
 
 -- a list of exported calls, each on the lane that the one before left and answered as its contract says, and the calls of the lane that
@@ -147,6 +148,6 @@ pub record Emptied (l : Words) : Type 0 where
 pub record TookOver (text : List ℕ) (number : ℕ) (l : Words) : Type 0 where
   pub κs : Lfts 2
   pub lane : MutBor Words
-  pub read : MutBor (List ℕ)
+  pub read : Bor (List ℕ)
   pub text_is : read.now ≡ text
   pub says : take-over-reads.Learnt κs (lane, (read, tt)) number (at_last lane l, (read, tt))

@@ -3,8 +3,12 @@
 
 mod pipe;
 
+use std::env::FillError;
+use std::io::Input;
+use std::rt::{Clock, Env};
+
 // The blocks in turn, until one stops the program, or the output takes no more. A step that does not stop takes at least one byte.
-fn run(input: &[u8]) {
+fn run(rt: &(impl Print + Eprint + Clock), input: &[u8]) {
     let mut lane = [[0u64; lane::ROW_WORDS]; lane::ROWS];
     lane::empty(&mut lane);
     let mut space = [0u8; console::ANSWER_SPACE];
@@ -14,7 +18,7 @@ fn run(input: &[u8]) {
         let out: &mut [u8] = &mut space;
         let s = console::step(&mut lane, input, at, out);
         let n = s.written;
-        if !pipe::write_whole(&space[..n]) {
+        if !pipe::write_whole(rt, &space[..n]) {
             return;
         }
         if s.stop {
@@ -26,28 +30,31 @@ fn run(input: &[u8]) {
 }
 
 // The space is one byte longer than an input may be. Of a longer one nothing is run.
-fn supervise(space: &mut [u8]) {
-    let n = pipe::read_whole(space);
+fn supervise(rt: &(impl Input + Print + Eprint + Clock), space: &mut [u8]) {
+    let n = pipe::read_whole(rt, space);
     let mut line = [0u8; console::ANSWER_SPACE];
     let out: &mut [u8] = &mut line;
     let w = console::refuse_long(n, out);
     if w > 0 {
-        pipe::write_whole(&line[..w]);
+        pipe::write_whole(rt, &line[..w]);
         return;
     }
-    run(&space[..n]);
+    run(rt, &space[..n]);
+}
+
+// Whether there is an argument beside the program's name, be it empty.
+fn has_argument(env: &impl Env) -> bool {
+    let mut first = [0u8; 1];
+    !matches!(env.arg(1, &mut first), Err(FillError::NotPresent))
 }
 
 // An argument is refused and not ignored: a file meant for the input would otherwise leave the program waiting for another one.
-fn main() {
-    if os::arg_count() > 1 {
-        io::write_all(
-            libc::STDERR_FILENO,
-            b"supervise: takes no arguments; call texts come on standard input\n",
-        );
+fn main(rt: HostRuntime) {
+    if has_argument(&rt) {
+        let _ = rt.eprintln("supervise: takes no arguments; call texts come on standard input");
         return;
     }
     let mut space = [0u8; console::LONGEST_INPUT + 1];
-    supervise(&mut space);
-    pipe::close_output();
+    supervise(&rt, &mut space);
+    pipe::close_output(&rt);
 }
