@@ -256,8 +256,14 @@ def antt(path):
     return module
 
 
+def source_files(ending):
+    """The files of that ending in the crates' folders, but for what is built there."""
+    found = (path for part in CRATES.glob("*/*") if part.name != "out" for path in part.rglob(f"*{ending}"))
+    return sorted(path for path in (*found, *CRATES.glob(f"*/*{ending}")) if path.is_file())
+
+
 def antt_files():
-    return [antt(path) for path in sorted(CRATES.rglob("*.antt"))]
+    return [antt(path) for path in source_files(".antt")]
 
 
 def own_library(path):
