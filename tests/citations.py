@@ -1,8 +1,10 @@
 """Which declaration rests on which, and the table of docs/PINS.md."""
+import functools
 import re
 
 from rattle import rattle_files
 from sources import ROOT, antt_files
+
 from terms import definition
 
 ROW = re.compile(r"\| `(\w+)/(proofs/\S+)\.([^`\s.]+)` \| edit `(\w+)/(\w+)` \| \S.* \|")
@@ -10,6 +12,22 @@ ROW = re.compile(r"\| `(\w+)/(proofs/\S+)\.([^`\s.]+)` \| edit `(\w+)/(\w+)` \| 
 
 def key(module, declaration):
     return module.where.removesuffix(".antt") + "." + declaration.name
+
+
+@functools.cache
+def functions(crate):
+    return {one.name for file in rattle_files() if file.crate == crate for one in file.functions}
+
+
+def function_proof(module):
+    """Whether a file is of a function's proof: `proofs/FUNCTION/`, or below a module's folder."""
+    return module.path.name in ("Answers.antt", "Invariants.antt", "Proof.antt") and module.path.parent.name in functions(module.crate)
+
+
+def asked_for(module, declaration):
+    """Whether the check asks for a declaration of a function's proof: a public answer to the goal of its name, or the proof written as a whole."""
+    answer = re.fullmatch(rf"(?:\S+\.)?{re.escape(declaration.name)}", declaration.type)
+    return "pub" in declaration.marks and (answer is not None or module.path.name == "Proof.antt")
 
 
 def citations(modules):
@@ -26,10 +44,9 @@ def held(pinned):
     """What the functions' proofs and the pinned theorems rest on."""
     modules = antt_files()
     cited = citations(modules)
-    functions = {(file.crate, one.name) for file in rattle_files() for one in file.functions}
-    proofs = [module for module in modules if module.path.name == "Proof.antt" and (module.crate, module.path.parent.name) in functions]
-    # Of a function's proof the public declaration is asked for, and the rest only by it.
-    ends = {key(module, one) for module in proofs for one in module.declarations if "pub" in one.marks}
+    # What a function's proof has besides is held only by what the check asks for, and by what `tactic(auto, using(..))` hands it.
+    ends = {key(module, one) for module in modules if function_proof(module) for one in module.declarations if asked_for(module, one)}
+    ends |= {f"{'/'.join(path[:-1])}.{path[-1]}" for file in rattle_files() for path in file.using}
     reached, waiting = set(), list(ends | (pinned & cited.keys()))
     while waiting:
         at = waiting.pop()

@@ -8,7 +8,8 @@ from sources import CRATES, InCrate, imports_in, rattle_code, split_outside
 
 FUNCTION = re.compile(r'(?<![\w#])(pub\b(?:\s*\([^()]*\))?\s+)?(?:(?:const|unsafe|async|extern(?:\s*"[^"]*")?)\s+)*fn\s+(\w+)\s*')
 ATTRIBUTES = re.compile(r"(?:#\s*\[[^\[\]]*\]\s*)+$")
-CLAUSE = re.compile(r"\s*(requires|ensures)\b\s*\w*\s*(?=\{)")
+CLAUSE = re.compile(r"\s*(requires|ensures)\b\s*\*?\s*\w*\s*(?=\{)")
+TACTIC = re.compile(r"#\s*!?\s*\[\s*tactic\s*\(")
 STRUCT = re.compile(r"\bstruct\s+(\w+)[^{(;]*(?=[{(;])")
 CLOSING = {"(": ")", "{": "}", "[": "]", "<": ">"}
 
@@ -47,6 +48,9 @@ class Source(InCrate):
     structs: dict
     enums: set
     names: dict
+    # the paths that a `tactic(..)` hands to proofs, `using` and `unfolding`, from the crate on
+    using: list
+    unfolding: list
     # a file of Rattle has no antt modules below it
     children: tuple = ()
 
@@ -110,14 +114,28 @@ def fields(code, at):
     return [re.findall(r"\w+", part.partition(":")[0])[-1] for part in parts]
 
 
+def tactic_paths(code, word, crate):
+    """The paths in `using(..)` or `unfolding(..)` of a `tactic(..)` attribute; `crate` is the file's own."""
+    found = []
+    for attribute in TACTIC.finditer(code):
+        text = code[attribute.end() : balanced(code, attribute.end() - 1)]
+        for listed in re.findall(rf"\b{word}\s*\(([^()]*)\)", text):
+            paths = [tuple(re.findall(r"\w+", path)) for path in listed.split(",")]
+            found += [(crate, *path[1:]) if path[0] == "crate" else path for path in paths if path]
+    return found
+
+
 @functools.cache
 def source(path):
     code = rattle_code(path.read_text())
+    crate = path.relative_to(CRATES).parts[0]
     brought = [one for found in re.findall(r"\bghost\s+use\s+([^;]*);", code) for one in imports_in(found)]
     structs = {found[1]: fields(code, found.end()) for found in STRUCT.finditer(code)}
     names = {name: kind.strip() for name, kind in re.findall(r"\btype\s+(\w+)[^=;]*=([^;\[]+);", code)}
     functions = [function(path, code, found) for found in FUNCTION.finditer(code)]
-    return Source(path, code, brought, functions, structs, set(re.findall(r"\benum\s+(\w+)", code)), names)
+    enums = set(re.findall(r"\benum\s+(\w+)", code))
+    using, unfolding = (tactic_paths(code, word, crate) for word in ("using", "unfolding"))
+    return Source(path, code, brought, functions, structs, enums, names, using, unfolding)
 
 
 def rattle_files():

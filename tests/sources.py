@@ -256,27 +256,29 @@ def antt(path):
     return module
 
 
+def source_files(ending):
+    """The files of that ending in the crates' folders, but for what is built there."""
+    found = (path for part in CRATES.glob("*/*") if part.name != "out" for path in part.rglob(f"*{ending}"))
+    return sorted(path for path in (*found, *CRATES.glob(f"*/*{ending}")) if path.is_file())
+
+
 def antt_files():
-    return [antt(path) for path in sorted(CRATES.rglob("*.antt"))]
+    return [antt(path) for path in source_files(".antt")]
 
 
-LIBRARY = re.compile(r"Rattle·(\w+?)(?:·(specs|proofs))?")
-
-
-def own_library(name):
-    """The crate that a library's name means, and the folders that may follow."""
-    found = LIBRARY.fullmatch(name)
-    return found[1] if found and (CRATES / found[1]).is_dir() else None
+def own_library(path):
+    """The crate of this repository that a whole path begins with: `Rattle`, then its name."""
+    return path[1] if path[:1] == ("Rattle",) and len(path) > 1 and (CRATES / path[1]).is_dir() else None
 
 
 @functools.cache
 def module_file(path):
     """The file of the longest path to a module that a path begins with, and the names left; None where none is written."""
-    crate = own_library(path[0])
+    crate = own_library(path)
     if not crate:
         return None
-    for length in range(len(path) - 1, 1, -1):
-        file = CRATES.joinpath(crate, *path[1:length]).with_suffix(".antt")
+    for length in range(len(path) - 1, 2, -1):
+        file = CRATES.joinpath(crate, *path[2:length]).with_suffix(".antt")
         if file.is_file():
             return file, path[length:]
     return None
@@ -285,7 +287,7 @@ def module_file(path):
 def module_path(module):
     """The path of a file as a module of its crate; that of `Lib` is its folder's."""
     crate, part, *rest = module.path.relative_to(CRATES).with_suffix("").parts
-    return (f"Rattle·{crate}·{part}", part, *(() if rest == ["Lib"] else rest))
+    return ("Rattle", crate, part, *(() if rest == ["Lib"] else rest))
 
 
 def absolute(path, module, without=frozenset()):
@@ -301,22 +303,32 @@ def absolute(path, module, without=frozenset()):
     return [whole + rest for one in brought for whole in absolute(one.path, module, without | {one})]
 
 
-# The first error of a check, with what it says, or the first fact that is left open in a function.
-ERROR = re.compile(r"^(?:(\S+): error: (.*)|note: (\S+): it is not proved that .*)$", re.M)
+# What `rt ci` last said: `tests/run` keeps it.
+CI_LOG = ROOT / "target" / "ci.log"
+
+# What it says of a must-fail edit: the first fact that fails, where there is one, behind the place in the crate.
+VERDICT = re.compile(r"^rt: must-fail (\w+)/([\w.-]+)\.edit: (.*)$", re.M)
+REFUSED = re.compile(r"refused, as it must be: (?:note: )?(?:\./)?(\S+?):\d+:\d+: (?:error: )?(.*)")
 
 # An error that shows no fact to fail: what an edit did away with is missing, or its own words are no antt.
 SHAPE = re.compile(r"has no `[^`]*` that can be named|has no field|is not in scope|cannot continue the declaration")
 
 
-def refusal_log(crate, label):
-    """Where the prover's words on a must-fail edit are kept."""
-    return ROOT / "target" / "must-fail" / crate / label / ".log"
+@functools.cache
+def verdicts():
+    """What `rt ci` last said of each must-fail edit, by crate and label; none where it was not run."""
+    text = CI_LOG.read_text() if CI_LOG.is_file() else ""
+    return {(crate, label): said for crate, label, said in VERDICT.findall(text)}
 
 
-def must_fail_edits(crate, label):
-    """The files of a must-fail edit: one, unless there is none or both folders have it."""
-    folder = CRATES / crate / "must-fail"
-    return [path for path in (folder / f"{label}.edit", folder / "incremental" / f"{label}.edit") if path.is_file()]
+def shapeless(said):
+    """Whether what was said of a refusal is no fact that fails. An error in a declaration begins with its name; one of parsing does not."""
+    return SHAPE.search(said) is not None or not re.match(r"`|it is not proved that", said)
+
+
+def must_fail_edit(crate, label):
+    """The file of a must-fail edit."""
+    return CRATES / crate / "must-fail" / f"{label}.edit"
 
 
 class BadEdit(Exception):

@@ -9,7 +9,7 @@ TOKEN = re.compile(rf"(?<=[\s)}}])\.{NAME}|{PATH.pattern}|[(){{}};,.]|\S")
 # What joins propositions, binds or separates: an equation reaches no further.
 LOOSE = {"×", "→", "⊎", "↔", "¬", "∗", ",", ";", ".", "=", "λ", "let", "in", "do", "←", ":", "as", "∣", "where"}
 # Between the same two sides these say nothing.
-REFLEXIVE = ("≡", "≤", "→", "↔", "⊆")
+REFLEXIVE = ("≡", "≤", "→", "↔", "⊆", "==")
 
 
 def tree(text):
@@ -42,7 +42,7 @@ def implicit(token):
 
 
 def operator(token):
-    return isinstance(token, str) and (token in LOOSE or not (token[0].isalnum() or token[0] in "_«[."))
+    return isinstance(token, str) and (token in LOOSE or not (token[0].isalnum() or token[0] in "_◌«[."))
 
 
 def cut(tokens, ends):
@@ -79,8 +79,8 @@ def says_nothing(text):
                 sides = [bare(side) for _, side, _ in cut(part, lambda token: token == mark)]
                 if mark in part and len(sides) == 2 and sides[0] == sides[1]:
                     return f"the same on both sides of {mark}"
-        if tokens and tokens[0] == "_≡_" and tokens[-2:-1] == tokens[-1:]:
-            return "the same twice after _≡_"
+        if tokens and tokens[0] in ("◌≡◌", "◌==◌", "◌≤◌") and tokens[-2:-1] == tokens[-1:]:
+            return f"the same twice after {tokens[0]}"
     return None
 
 
