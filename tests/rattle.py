@@ -142,6 +142,15 @@ def rattle_files():
     return [source(path) for path in sorted(CRATES.glob("*/src/**/*.rt"))]
 
 
+def value_type(kind):
+    """The type of the value in a `Result` or an `Option`, however deep, or none where a type is neither or has no value."""
+    found = re.fullmatch(r"\s*(?:\w+\s*::\s*)*(Result|Option)\s*<(.*)>\s*", kind, re.S)
+    if not found:
+        return None
+    inner = split_outside(found[2], ",")[0].strip()
+    return value_type(inner) or (None if inner == "()" else inner)
+
+
 def fields_of(kind, crate):
     """The fields of the struct that a type is, declared in that crate or in another one; none where it is no struct of the repository."""
     found = re.fullmatch(r"(?:\w+\s*::\s*)*(\w+)\s*(?:<[^<>]*>)?", kind)

@@ -137,6 +137,21 @@ def bodies(known, index):
     return found
 
 
+def told_apart(known, index):
+    """Whether a definition tells all values of its argument at an index apart: each clause names one there that has no parts, and gives another."""
+    declaration = known.declaration
+    if declaration.kind in ("record", "data"):
+        return False
+    given = []
+    for clause in re.split(rf"\n(?={re.escape(declaration.name)}\s)", declaration.text)[1:]:
+        left, _, right = clause.partition(" = ")
+        patterns = [token for token in tree(left)[1:] if not implicit(token)]
+        if index >= len(patterns) or not isinstance(patterns[index], str) or not patterns[index][:1].isupper():
+            return False
+        given.append(right.strip())
+    return 1 < len(given) == len(set(given))
+
+
 def uses(text, name):
     """How a term uses a variable: ("field", f), ("whole", the operator beside it), or ("argument", the function's path, which one)."""
     for tokens in groups(concluded(tree(text))):
@@ -172,8 +187,56 @@ def told(text, name, part, place, seen=frozenset()):
                 if part is None:
                     return True
                 continue
+            if part is None and told_apart(known, index[0]):
+                return True
             key = (known.module.path, known.declaration.name, index[0])
             if key not in seen and any(told(body, own, part, known.module, seen | {key}) for own, body in bodies(known, index[0])):
                 return True
     return False
 
+
+# What gives the value in a result or an option, or hands it to a term with a variable of its own.
+UNWRAPPED = r"(?:result_unwrap_or|unwrap_or)"
+HANDED = r"(?:IfOk|IfSome|IsOkAnd|IsSomeAnd|MatchOption|MatchResult)"
+ATOM = r"(?:[^\s()]+|\((?:[^()]|\((?:[^()]|\([^()]*\))*\))*\))"
+
+
+def values(text, name):
+    """A term with one variable for the value in a result or an option, and the names that stand for it."""
+    held = f"{name}·value"
+    own = rf"(?<![\w.·]){re.escape(name)}(?![\w.·])"
+    text, inline = re.subn(rf"\(\s*{UNWRAPPED}\s+{own}\s+{ATOM}\s*\)", f" {held} ", text)
+    bound = rf"\blet\s+(\w+)\s*=\s*{UNWRAPPED}\s+{own}\s+{ATOM}\s+in\b"
+    names = set(re.findall(bound, text))
+    text = re.sub(bound, " ", text)
+    names |= set(re.findall(rf"\b{HANDED}\s+{own}.*?\(λ\s+\(?(\w+)", text, re.S))
+    return text, names | ({held} if inline else set())
+
+
+def handed_on(text, name, place, seen=frozenset()):
+    """Whether a term puts a variable somewhere as a whole, itself or by the definitions that it hands it to."""
+    for kind, what, *index in uses(text, name):
+        if kind == "whole" and bare(tree(text)) != name:
+            return True
+        if kind == "argument" and (known := definition(what, place)):
+            key = (known.module.path, known.declaration.name, index[0])
+            if key not in seen and any(handed_on(body, own, known.module, seen | {key}) for own, body in bodies(known, index[0])):
+                return True
+    return False
+
+
+def value_told(text, name, part, place, seen=frozenset()):
+    """Whether a term speaks of the value in a result or an option, or of a field of it, as `told` does of a variable."""
+    if says_nothing(text):
+        return False
+    if any(kind == "whole" and what == "≡" for kind, what, *_ in uses(text, name)):
+        return True
+    unwrapped, names = values(text, name)
+    if any(told(unwrapped, one, part, place) or handed_on(unwrapped, one, place) for one in names):
+        return True
+    for kind, what, *index in uses(text, name):
+        if kind == "argument" and (known := definition(what, place)):
+            key = (known.module.path, known.declaration.name, index[0])
+            if key not in seen and any(value_told(body, own, part, known.module, seen | {key}) for own, body in bodies(known, index[0])):
+                return True
+    return False

@@ -7,6 +7,7 @@ use native.Mathlib.Omega.{arith}
 use borrow.Author.Tests.{lt-ltb}
 use lib.Dec.{eqb, leb}
 use lib.ListN.{length, drop, replicate, length-append, length-replicate}
+use Rattle.std.specs.Prelude.{Option, Some, None}
 use Rattle.text.specs.Ascii.{ascii}
 use Rattle.text.specs.Fields.{line_length, line_value, field_in, is_number, value_in}
 use Rattle.wish.specs.declared.Wish.{Wish}
@@ -17,11 +18,9 @@ use Rattle.lane.specs.Call.{Call, Answer, meaning, call_answer}
 use Rattle.history.specs.Claims.{kind_of}
 use Rattle.history.specs.History.{Event, Wished, Chain, chain_next}
 use Rattle.console.specs.declared.Stepped.{Stepped}
-use Rattle.console.specs.declared.blocks.Kind.{Kind}
-use Rattle.console.specs.declared.blocks.Kind.TheVariants.{Start, Enter, Leave, Cycle, Show, Surface, Unknown}
 use Rattle.console.specs.Limits.{answer_space}
 use Rattle.console.specs.Blocks as Blocks
-use Rattle.console.specs.Blocks.{Parsed, parsed, malformed, past, after_line, field, is_wish, wish_of, want_in, want, wants, sixty_four, start_lines, enter_lines, leave_lines, surface_lines, cycle_lines, show_call, lines_of, block_in}
+use Rattle.console.specs.Blocks.{Kind, Start, Enter, Leave, Cycle, Show, Surface, Parsed, parsed, malformed, past, after_line, field, is_wish, wish_of, want_in, want, wants, sixty_four, start_lines, enter_lines, leave_lines, surface_lines, cycle_lines, show_call, lines_of, block_in}
 use Rattle.console.specs.Output.{keeps_lane}
 use Rattle.console.specs.Program.{halted, without_room, ran, step_of, step_into, StepGives}
 use Rattle.console.specs.History.{block_at, block_run, events_of}
@@ -63,18 +62,18 @@ unfolding sixty_four
 sixty_four_is ws =
     omega (arith, length-append ws (replicate (most_carriers - length ws) Hold), length-replicate (most_carriers - length ws) Hold)
 
-lines_wished : (k : Kind) (t : List ℕ) → WishedIn (lines_of k t)
+lines_wished : (k : Option Kind) (t : List ℕ) → WishedIn (lines_of k t)
 unfolding start_lines enter_lines leave_lines surface_lines cycle_lines show_call
-lines_wished Start t =
+lines_wished (Some Start) t =
     field_wished _ _ t _ λ surface t. field_wished _ _ t _ λ end t. field_wished _ _ t _ λ limit t. field_wished _ _ t _ λ first t. wished tt
-lines_wished Enter t =
+lines_wished (Some Enter) t =
     field_wished _ _ t _ λ car t. field_wished _ _ t _ λ at t. field_wished _ _ t _ λ speed t. field_wished _ _ t _ λ length t.
     field_wished _ _ t _ λ brake t. wished tt
-lines_wished Leave t = field_wished _ _ t _ λ car t. wished tt
-lines_wished Cycle t = field_wished _ _ t _ λ cars t. wants_wished cars t _ λ ws t. wished λ h. omega (arith, sixty_four_is ws)
-lines_wished Show t = wished tt
-lines_wished Surface t = field_wished _ _ t _ λ surface t. wished tt
-lines_wished Unknown t = no_block
+lines_wished (Some Leave) t = field_wished _ _ t _ λ car t. wished tt
+lines_wished (Some Cycle) t = field_wished _ _ t _ λ cars t. wants_wished cars t _ λ ws t. wished λ h. omega (arith, sixty_four_is ws)
+lines_wished (Some Show) t = wished tt
+lines_wished (Some Surface) t = field_wished _ _ t _ λ surface t. wished tt
+lines_wished None t = no_block
 
 block_wished : (t : List ℕ) → WishedIn (block_in t)
 unfolding block_in

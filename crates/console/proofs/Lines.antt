@@ -1,138 +1,149 @@
--- A block's lines, read one after the other: where the reading has come to, and what is still to be read.
-use mathlib.Core.Path.{◌≡◌, refl, sym, ap, ◌∙◌}
-use mathlib.Core.Bool.{Bool, true, false, true≢false, ◌&&◌}
-use mathlib.Core.List.{List}
+-- A block's lines, read one after the other: what of the text is left, and what is still to be read of the block.
+use mathlib.Core.Path.{◌≡◌, refl, sym, ap, subst, ◌∙◌}
+use mathlib.Core.Bool.{Bool, false}
+use mathlib.Core.List.{List, [], ◌∷◌}
 use Prim.Native.Nat.{ℕ, suc, ◌+◌, ◌≤◌}
-use native.Mathlib.Nat.{add_assoc, add-zero}
+use native.Mathlib.Nat.{add_assoc, zero-add}
 use native.Mathlib.Omega.{arith}
-use lib.ListN.{length, drop}
+use lib.Dec.{eqb}
+use lib.Pointwise.{pointwise}
+use lib.ListN.{length, drop, length-drop}
 use lib.Seq.{drop-drop}
-use Rattle.text.specs.declared.fields.Field.{Field}
+use Rattle.std.specs.Prelude.{Option, Some, None}
 use Rattle.text.specs.Ascii.{ascii}
-use Rattle.text.specs.Fields.{line_length, line_value, is_word, field_in, is_number, FieldRead}
-use Rattle.text.proofs.ReadLaws.{other_length, field_at_most}
+use Rattle.text.specs.Fields.{line_length, line_value, is_word, value_in}
+use Rattle.text.specs.Groups.{Key, got, missing, value_line, number_line}
+use Rattle.text.proofs.ReadLaws.{other_length, word_pointwise, number_is, number_value, no_number, field_at_most}
+use Rattle.text.proofs.GroupLaws.{value_told, value_missing, number_told, number_missing}
 use Rattle.lane.specs.Layout.{Words}
 use Rattle.lane.specs.Call.{Call}
-use Rattle.console.specs.declared.Stepped.{Stepped}
-use Rattle.console.specs.declared.blocks.Kind.{Kind}
-use Rattle.console.specs.Blocks.{Parsed, parsed, malformed, past, after_line, field, kind_of, lines_of, block_in}
-use Rattle.console.specs.Output.{refusal}
-use Rattle.console.specs.Program.{Prints, RunGives}
+use Rattle.console.specs.Blocks.{Parsed, parsed, malformed, past, after_line, field, Kind, kind_of, lines_of, block_in}
+use Rattle.console.specs.Program.{CallGives, BlockRun, BlockGives}
 
 past_past : (j k : ℕ) (p : Parsed) → past j (past k p) ≡ past (j + k) p
 past_past j k (parsed x used) = ap (parsed x) (sym (add_assoc j k used))
 past_past j k malformed = refl
 
--- a number that is read is in its field's range
-pub field_most : (key : List ℕ) (most : ℕ) (text : List ℕ) (at : ℕ) {r : Field} → FieldRead key most text at r → r.value ≤ most
-field_most key most text at told = omega (arith, field_at_most key most (drop at text), told.value)
+past_none : (p : Parsed) → p ≡ past 0 p
+past_none (parsed x used) = ap (parsed x) (sym (zero-add used))
+past_none malformed = refl
 
--- `whole` began at `at`; what `rest` reads from the place on is still to come
-pub record Reads (input : List ℕ) (at place : ℕ) (whole : Parsed) (rest : List ℕ → Parsed) : Type 0 where
+-- `whole` began at the start of `t`; what `rest` reads of what is left is still to come
+pub record Reads (t left : List ℕ) (whole : Parsed) (rest : List ℕ → Parsed) : Type 0 where
   pub used : ℕ
-  pub place_is : place ≡ at + used
-  pub whole_is : whole ≡ past used (rest (drop place input))
+  pub within : used ≤ length t
+  pub left_is : left ≡ drop used t
+  pub whole_is : whole ≡ past used (rest left)
 
--- the lines so far are all there, or one is missing and there is no block
-pub record Reached (input : List ℕ) (at place : ℕ) (whole : Parsed) (ok : Bool) (rest : List ℕ → Parsed) : Type 0 where
-  pub there : ok ≡ true → Reads input at place whole rest
-  pub missing : ok ≡ false → whole ≡ malformed
+pub none_read_yet : (t : List ℕ) (rest : List ℕ → Parsed) → Reads t t (rest t) rest
+none_read_yet t rest = record { used = 0; within = omega arith; left_is = refl; whole_is = past_none (rest t) }
 
--- the block's first line is read
-pub first_read : (input : List ℕ) (at : ℕ) (rest : List ℕ → Parsed) {first : ℕ} → first ≡ at + suc (line_length (drop at input))
-    → Reached input at first (after_line (drop at input) rest) true rest
-unfolding after_line
-first_read input at rest e =
-    let k = suc (line_length (drop at input)) in
-    record {
-      there = λ t. record { used = k; place_is = e; whole_is = rw (drop-drop k at input, ← e) refl };
-      missing = λ f. absurd (true≢false f);
-    }
-
-module _ {input : List ℕ} {at : ℕ} {whole : Parsed} where
+module _ {t left : List ℕ} {whole : Parsed} {rest : List ℕ → Parsed} (r : Reads t left whole rest) where
   -- a line is read
-  pub line_read : {place : ℕ} {rest : List ℕ → Parsed} (next : List ℕ → Parsed) {after : ℕ} → Reads input at place whole rest
-      → rest (drop place input) ≡ after_line (drop place input) next → after ≡ place + suc (line_length (drop place input))
-      → Reads input at after whole next
+  pub line_read : (next : List ℕ → Parsed) {after : List ℕ} → rest left ≡ after_line left next → after ≡ drop (suc (line_length left)) left
+      → suc (line_length left) ≤ length left → Reads t after whole next
   unfolding after_line
-  line_read {place} {rest} next {after} r e f =
-      let k = suc (line_length (drop place input)) in
+  line_read next {after} e f h =
+      let k = suc (line_length left) in
       record {
         used = r.used + k;
-        place_is = f ∙ ap (λ (n : ℕ). n + k) r.place_is ∙ add_assoc at r.used k;
-        whole_is =
-            r.whole_is ∙ ap (past r.used) e ∙ past_past r.used k (next (drop k (drop place input)))
-            ∙ ap (λ (l : List ℕ). past (r.used + k) (next l)) (drop-drop k place input ∙ ap (λ (n : ℕ). drop n input) (sym f));
+        within = omega (arith, h, r.within, ap length r.left_is, length-drop r.used t);
+        left_is = f ∙ ap (drop k) r.left_is ∙ drop-drop k r.used t;
+        whole_is = r.whole_is ∙ ap (past r.used) (e ∙ ap (λ (l : List ℕ). past k (next l)) (sym f)) ∙ past_past r.used k (next after);
       }
 
   -- nothing can be read
-  pub none_read : {place : ℕ} {rest : List ℕ → Parsed} → Reads input at place whole rest → rest (drop place input) ≡ malformed → whole ≡ malformed
-  none_read r e = r.whole_is ∙ ap (past r.used) e
+  pub none_read : rest left ≡ malformed → whole ≡ malformed
+  none_read e = r.whole_is ∙ ap (past r.used) e
 
-  -- a line of a key with a number, as `read_field` tells of it, after the lines so far
-  module _ (key : List ℕ) (most : ℕ) (next : ℕ → List ℕ → Parsed) {place : ℕ} {f : Field} (told : FieldRead key most input place f) where
-    read : Reads input at place whole (λ t. field key most t next) → f.ok ≡ true → Reads input at f.next whole (next f.value)
-    unfolding field
-    read r e =
-        let i : is_number (field_in key most (drop place input)) ≡ true = sym told.ok ∙ e in
-        line_read (next f.value) r (rw (i, told.value) refl) (rw i at told.next)
+-- a line of a key with a number
+module _ (k : Key) (next : ℕ → List ℕ → Parsed) {t left : List ℕ} {whole : Parsed} (r : Reads t left whole (λ u. field k.name k.most u next)) where
+  pub number_read : {n : ℕ} {after : List ℕ} → number_line k left ≡ got n after → Reads t after whole (next n)
+  unfolding field
+  number_read {n} e =
+      let told = number_told k left e in
+      line_read r (next n) (rw (told.field_is, number_is n, number_value n) refl) told.rest_is told.within
 
-    unread : Reads input at place whole (λ t. field key most t next) → f.ok ≡ false → whole ≡ malformed
-    unfolding field
-    unread r e =
-        let i : is_number (field_in key most (drop place input)) ≡ false = sym told.ok ∙ e in
-        none_read r (rw i refl)
+  pub number_unread : number_line k left ≡ missing → whole ≡ malformed
+  unfolding field
+  number_unread e = none_read r (rw (number_missing k left e, no_number) refl)
 
-    pub field_read : {so_far : Bool} → Reached input at place whole so_far (λ t. field key most t next)
-        → Reached input at f.next whole (so_far && f.ok) (next f.value)
-    field_read {so_far = true} r = record { there = read (r.there refl); missing = unread (r.there refl) }
-    field_read {so_far = false} r = record { there = λ t. absurd (true≢false (sym t)); missing = r.missing }
+-- such lines, one after the other
+unfoldable pub fields : List Key → (List ℕ → List ℕ → Parsed) → List ℕ → Parsed
+fields [] next t = next [] t
+fields (k ∷ ks) next t = field k.name k.most t (λ n u. fields ks (λ ns. next (n ∷ ns)) u)
 
-  module _ {before after : Words} {buffer out : List ℕ} {r : Stepped} where
-    -- the block is read whole, and then run
-    pub all_read : {place : ℕ} {x : Call} → Reads input at place whole (λ t. parsed x 0) → RunGives before (parsed x 0) place buffer r after out
-        → RunGives before whole at buffer r after out
-    all_read k g =
-        let p = g.prints in
-        rw k.whole_is
-        (record {
-          state = g.state;
-          kept = g.kept;
-          prints = record { next = p.next ∙ omega (arith, k.place_is); written_length = p.written_length; room = p.room; bytes = p.bytes; no = p.no; stop = p.stop };
-        })
+module _ (k : Key) (ks : List Key) (next : List ℕ → List ℕ → Parsed) {t left : List ℕ} {whole : Parsed} (r : Reads t left whole (fields (k ∷ ks) next)) where
+  pub fields_on : {n : ℕ} {rest : List ℕ} → number_line k left ≡ got n rest → Reads t rest whole (fields ks (λ ns. next (n ∷ ns)))
+  unfolding fields
+  fields_on e = number_read k (λ n u. fields ks (λ ns. next (n ∷ ns)) u) r e
 
--- no block is read: 8 is printed, and the lane is left as it is
-pub refuses_8 : {whole : Parsed} → whole ≡ malformed → (l : Words) {at : ℕ} {buffer out : List ℕ} {r : Stepped} → Prints (refusal 8) at 0 true buffer r out
-    → RunGives l whole at buffer r l out
-refuses_8 e l p = rw e (record { state = refl; kept = λ k. refl; prints = rw add-zero p })
+  pub fields_stop : number_line k left ≡ missing → whole ≡ malformed
+  unfolding fields
+  fields_stop e = number_unread k (λ n u. fields ks (λ ns. next (n ∷ ns)) u) r e
 
--- a block read in another way gives what it gives
-pub read_as : {whole p : Parsed} → whole ≡ p → {before after : Words} {at : ℕ} {buffer out : List ℕ} {r : Stepped}
-    → RunGives before p at buffer r after out → RunGives before whole at buffer r after out
-read_as e g = rw e g
+pub fields_end : (next : List ℕ → List ℕ → Parsed) {t left : List ℕ} {whole : Parsed} → Reads t left whole (fields [] next) → Reads t left whole (next [])
+unfolding fields
+fields_end next r = r
+
+-- a number that is read is in its field's range
+pub number_most : (k : Key) (t : List ℕ) {n : ℕ} {rest : List ℕ} → number_line k t ≡ got n rest → n ≤ k.most
+number_most k t {n} e = omega (arith, field_at_most k.name k.most t, ap value_in (number_told k t e).field_is, number_value n)
+
+-- the block is read whole, and then run
+pub all_read : {t left : List ℕ} {whole : Parsed} {x : Call} → Reads t left whole (λ u. parsed x 0) → {before after : Words} {buffer out : List ℕ} {w : ℕ}
+    → CallGives before x buffer w after out → BlockRun before whole t buffer w after out left
+all_read {x = x} r g =
+    let e : r.used + 0 ≡ r.used = omega arith in
+    record { call = x; used = r.used; block = r.whole_is ∙ ap (parsed x) e; within = r.within; rest_is = r.left_is; gives = g }
 
 -- ---- the `call=` line
 
--- a block is of the kind that the line's word names
-pub block_of : (t : List ℕ) {word : List ℕ} {found kind : Kind} → word ≡ line_value (ascii "call=") t → found ≡ kind_of word → found ≡ kind
-    → block_in t ≡ after_line t (lines_of kind)
+-- a word compared with a known one
+pub word_test : (known word : List ℕ) {bytes : List ℕ} {r b : Bool} → bytes ≡ known → r ≡ pointwise eqb word bytes → r ≡ b → is_word known word ≡ b
+word_test known word e p t = word_pointwise known word ∙ ap (pointwise eqb word) (sym e) ∙ sym p ∙ t
+
+-- the lines after it, by the kind that its word names
+pub call_read : (t : List ℕ) {word left : List ℕ} → value_line (ascii "call=") t ≡ got word left → Reads t left (block_in t) (lines_of (kind_of word))
 unfolding block_in
-block_of t w f e = rw (← w, ← f, e) refl
+call_read t {word} e =
+    let told = value_told (ascii "call=") t e in
+    line_read (none_read_yet t block_in) (lines_of (kind_of word)) (rw told.value_is refl) told.rest_is told.within
+
+-- what those lines give, the block gives
+pub block_gives : {t left : List ℕ} {whole : Parsed} {next : List ℕ → Parsed} → Reads t left whole next
+    → (before after : Words) (buffer out rest : List ℕ) (o : Option ℕ) → BlockGives before (next left) left buffer o after out rest → BlockGives before whole t buffer o after out rest
+block_gives {t} {left} k before after buffer out rest (Some w) g =
+    record {
+      call = g.call;
+      used = k.used + g.used;
+      block = k.whole_is ∙ ap (past k.used) g.block;
+      within = omega (arith, k.within, g.within, ap length k.left_is, length-drop k.used t);
+      rest_is = g.rest_is ∙ ap (drop g.used) k.left_is ∙ drop-drop g.used k.used t;
+      gives = g.gives;
+    }
+block_gives k before after buffer out rest None g = (none_read k g.0, g.1, g.2)
+
+pub kind_gives : (t : List ℕ) {word left : List ℕ} {k : Option Kind} → value_line (ascii "call=") t ≡ got word left → kind_of word ≡ k
+    → (before after : Words) (buffer out rest : List ℕ) (o : Option ℕ) → BlockGives before (lines_of k left) left buffer o after out rest → BlockGives before (block_in t) t buffer o after out rest
+kind_gives t {left = left} e f before after buffer out rest o g =
+    block_gives (call_read t e) before after buffer out rest o (subst (λ (k : Option Kind). BlockGives before (lines_of k left) left buffer o after out rest) (sym f) g)
 
 -- an empty word names none
 no_word : (word known : List ℕ) → length word ≡ 0 → 1 ≤ length known → is_word known word ≡ false
 no_word word known h k = other_length known word (λ e. omega arith)
 
-pub no_block : (t : List ℕ) {word : List ℕ} → word ≡ line_value (ascii "call=") t → length word ≡ 0 → block_in t ≡ malformed
+pub no_block : (t : List ℕ) → value_line (ascii "call=") t ≡ missing → block_in t ≡ malformed
 unfolding after_line kind_of block_in
-no_block t {word} w h =
+no_block t m =
+    let none = value_missing (ascii "call=") t m in
+    let e : length (line_value (ascii "call=") t) ≡ 0 = ap length none in
     rw (
-      ← w,
-      no_word word (ascii "start") h (omega arith),
-      no_word word (ascii "enter") h (omega arith),
-      no_word word (ascii "leave") h (omega arith),
-      no_word word (ascii "cycle") h (omega arith),
-      no_word word (ascii "show") h (omega arith),
-      no_word word (ascii "surface") h (omega arith),
+      no_word (line_value (ascii "call=") t) (ascii "start") e (omega arith),
+      no_word (line_value (ascii "call=") t) (ascii "enter") e (omega arith),
+      no_word (line_value (ascii "call=") t) (ascii "leave") e (omega arith),
+      no_word (line_value (ascii "call=") t) (ascii "cycle") e (omega arith),
+      no_word (line_value (ascii "call=") t) (ascii "show") e (omega arith),
+      no_word (line_value (ascii "call=") t) (ascii "surface") e (omega arith),
     )
     refl

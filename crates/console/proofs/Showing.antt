@@ -3,7 +3,7 @@ use mathlib.Core.Path.{◌≡◌, refl, sym, ap, ◌∙◌, subst}
 use mathlib.Core.Bool.{Bool, true, false, cond}
 use mathlib.Core.List.{List, [], ◌++◌, append_assoc, append-nil}
 use Prim.Native.Nat.{ℕ, ◌+◌, ◌-◌, ◌≤◌}
-use native.Mathlib.Nat.{le_refl, add-zero}
+use native.Mathlib.Nat.{le_refl}
 use native.Mathlib.Omega.{arith}
 use borrow.Author.Tests.{ne_eqb}
 use borrow.Rule.Slice.PartMut.{mid_of, put_mid, mid_len, put_same}
@@ -20,12 +20,11 @@ use Rattle.lane.specs.Listing.{lane_text, text_no}
 use Rattle.lane.specs.Call.{Answer, text_call, told, call_answer, Gives}
 use Rattle.lane.proofs.Laws.{text_number, text_nine, text_refused, text_answers, text_room}
 use Rattle.lane.proofs.CallLaws.{answer_number, text_accepted}
-use Rattle.console.specs.declared.Stepped.{Stepped}
 use Rattle.console.specs.Limits.{answer_space}
-use Rattle.console.specs.Blocks.{parsed, show_call}
+use Rattle.console.specs.Blocks.{show_call}
 use Rattle.console.specs.Output.{refusal, printed}
-use Rattle.console.specs.Program.{Prints, RunGives}
-use Rattle.console.proofs.Printing.{prints_put}
+use Rattle.console.specs.Program.{Puts, CallGives}
+use Rattle.console.proofs.Printing.{puts}
 
 -- what a show prints: 21 alone refuses it
 abbrev pub shown : State → List ℕ
@@ -62,23 +61,22 @@ module _ (l : Words) (xs : List ℕ) (room : answer_space ≤ length xs) {n k : 
   part_length = mid_len 8 (length xs) xs (le_refl (length xs))
 
   -- what is printed for that answer is what a show prints
-  run_shows : (output : List ℕ) → printed (text_call (part xs)) (told n k ys) ≡ output → {next : ℕ} {out : List ℕ} {r : Stepped}
-      → Prints output next 0 false xs r out → RunGives l (parsed show_call 0) next xs r l out
+  run_shows : (output : List ℕ) → printed (text_call (part xs)) (told n k ys) ≡ output → {w : ℕ} {out : List ℕ} → Puts output xs w out
+      → CallGives l show_call xs w l out
   unfolding show_call
   run_shows output e p =
       let alike = show_prints l ∙ sym (shows l (part xs) (omega (arith, part_length))) in
-      record { state = sym (text_accepted (state_of l) _); kept = λ k. refl; prints = rw (alike, ← g.answer, e, add-zero) p }
+      record { state = sym (text_accepted (state_of l) _); kept = λ k. refl; puts = rw (alike, ← g.answer, e) p }
 
   number : n ≡ text_no (state_of l) (part xs)
   number = ap (λ (a : Answer). a.number) g.answer ∙ answer_number (text_call (part xs)) (state_of l)
 
-  pub show_refused : (n ≡ 0 → ⊥) → {next : ℕ} {out : List ℕ} {r : Stepped} → Prints (refusal n) next 0 false (with_part xs ys) r out
-      → RunGives l (parsed show_call 0) next xs r l out
+  pub show_refused : (n ≡ 0 → ⊥) → {w : ℕ} {out : List ℕ} → Puts (refusal n) (with_part xs ys) w out → CallGives l show_call xs w l out
   unfolding printed
-  show_refused h {next} {out} {r} p =
+  show_refused h {w} {out} p =
       let as_before : ys ≡ part xs = ap (λ (a : Answer). a.bytes) (g.answer ∙ text_refused (state_of l) (part xs) (λ e. h (number ∙ e))) in
       let same : with_part xs ys ≡ xs = ap (λ (b : List ℕ). with_part xs b) as_before ∙ put_same 8 (length xs - 8) xs in
-      run_shows (refusal n) (rw (ne_eqb n 0 h) refl) (subst (λ (b : List ℕ). Prints (refusal n) next 0 false b r out) same p)
+      run_shows (refusal n) (rw (ne_eqb n 0 h) refl) (subst (λ (b : List ℕ). Puts (refusal n) b w out) same p)
 
   module _ (accepted : n ≡ 0) where
     abbrev text : List ℕ
@@ -119,9 +117,9 @@ module _ (l : Words) (xs : List ℕ) (room : answer_space ≤ length xs) {n k : 
       pub show_fits : w + k ≤ length xs
       show_fits = omega (arith, place, long, fits)
 
-      pub show_accepted : {next : ℕ} → RunGives l (parsed show_call 0) next xs (record { next = next; written = w + k; no = 0; stop = false }) l out
+      pub show_accepted : CallGives l show_call xs (w + k) l out
       unfolding printed
-      show_accepted {next} =
+      show_accepted =
           let whole : length (ascii "ok=show\n" ++ text) ≡ 8 + length text = length-append (ascii "ok=show\n") text in
           let put : Put 0 (ascii "ok=show\n" ++ text) xs out (w + k) = (
             p.0 ∙ ap (written 0 (ascii "ok=show\n")) text_put ∙ written_before 0 (ascii "ok=show\n") text xs (omega (arith, fits)),
@@ -129,4 +127,4 @@ module _ (l : Words) (xs : List ℕ) (room : answer_space ≤ length xs) {n k : 
           ) in
           let taken = take_at text (drop (length text) (part xs)) (length text) refl in
           run_shows (ascii "ok=show\n" ++ text) (ap (printed (text_call (part xs))) told_as ∙ ap (λ (b : List ℕ). ascii "ok=show\n" ++ b) taken)
-          (prints_put next false (ascii "ok=show\n" ++ text) (omega (arith, fits)) put)
+          (puts (ascii "ok=show\n" ++ text) (omega (arith, fits)) put)

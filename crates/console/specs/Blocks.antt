@@ -1,11 +1,7 @@
 -- Document 01, "Call texts": the blocks that the program reads. A block is a call of the lane.
-use Rattle.std.specs.Prelude.{ℕ, zero, suc, ◌+◌, ◌-◌, ◌≤◌, ◌≡◌, Bool, true, false, cond, List, [], ◌∷◌, ◌++◌, Float, length, drop, replicate}
+use Rattle.std.specs.Prelude.{ℕ, zero, suc, ◌+◌, ◌-◌, ◌≤◌, ◌≡◌, Bool, true, false, cond, Option, Some, None, List, [], ◌∷◌, ◌++◌, ℤ, Float, length, drop, replicate}
 use Rattle.std.specs.Float.{binary32}
 use Rattle.std.specs.Float.Ieee.{of_bits}
-use Rattle.text.specs.declared.numbers.Number.{Number}
-use Rattle.text.specs.declared.numbers.Number.TheVariants as number
-use Rattle.text.specs.declared.numbers.Signed.{Signed}
-use Rattle.text.specs.declared.numbers.Signed.TheVariants as signed
 use Rattle.text.specs.Ascii.{ascii}
 use Rattle.text.specs.Fields.{line_length, starts_with, line_value, is_word, field_in, is_number, value_in, signed_in, bits_in}
 use Rattle.wish.specs.Units.{units_of}
@@ -15,12 +11,6 @@ use Rattle.lane.specs.Limits.{most_carriers, longest_text}
 use Rattle.lane.specs.Listing.{car_key, car_most, at_key, at_most, speed_key, speed_most, length_key, length_most, brake_key, brake_most}
 use Rattle.lane.specs.Handover.{surface_key, end_key, limit_key, cycle_key}
 use Rattle.lane.specs.Call.{Call, start_call, enter_call, leave_call, surface_call, cycle_call, text_call}
-use Rattle.console.specs.declared.blocks.Kind.{Kind}
-use Rattle.console.specs.declared.blocks.Kind.TheVariants.{Start, Enter, Leave, Cycle, Show, Surface, Unknown}
-use Rattle.console.specs.declared.reading.Asked.{Asked}
-use Rattle.console.specs.declared.reading.Want.{Want}
-use Rattle.console.specs.declared.reading.Want.TheVariants.{Wanted, Nothing}
-use Rattle.console.specs.Limits.{answer_space}
 
 -- what a text begins with: a block, which takes so many bytes, or none
 pub data Parsed : Type 0 where
@@ -68,47 +58,47 @@ surface_lines t = field surface_key.name surface_key.most t (λ surface t. parse
 -- ---- "lines `want=`"
 
 -- "`units:` and a number"
-abbrev pub units_wanted : Signed → Want
-units_wanted (signed.Is n) = Wanted (Units n)
-units_wanted signed.Malformed = Nothing
+abbrev pub units_wanted : Option ℤ → Option Wish
+units_wanted (Some n) = Some (Units n)
+units_wanted None = None
 
 -- "`accel:` or `speed:` and the float's bits"
-abbrev pub float_wanted : (Float → Wish) → Number → Want
-float_wanted f (number.Is n) = Wanted (f (of_bits binary32 n))
-float_wanted f number.Malformed = Nothing
+abbrev pub float_wanted : (Float → Wish) → Option ℕ → Option Wish
+float_wanted f (Some n) = Some (f (of_bits binary32 n))
+float_wanted f None = None
 
 -- "`units:` and a number, `accel:` or `speed:` and the float's bits as eight upper-case hexadecimal digits, or `hold`"
-unfoldable pub wish_wanted : (value : List ℕ) → Want
+unfoldable pub wish_wanted : (value : List ℕ) → Option Wish
 wish_wanted v =
-    cond (is_word (ascii "hold") v) (Wanted Hold)
+    cond (is_word (ascii "hold") v) (Some Hold)
     (cond (starts_with (ascii "units:") v) (units_wanted (signed_in (drop 6 v)))
     (cond (starts_with (ascii "accel:") v) (float_wanted Acceleration (bits_in (drop 6 v)))
-    (cond (starts_with (ascii "speed:") v) (float_wanted TargetSpeed (bits_in (drop 6 v))) Nothing)))
+    (cond (starts_with (ascii "speed:") v) (float_wanted TargetSpeed (bits_in (drop 6 v))) None)))
 
 -- a `want=` line; the value is empty where there is none
-unfoldable pub want_in : List ℕ → Want
+unfoldable pub want_in : List ℕ → Option Wish
 want_in t = wish_wanted (line_value (ascii "want=") t)
 
 -- whether the line holds a wish
-abbrev pub is_wish : Want → Bool
-is_wish (Wanted w) = true
-is_wish Nothing = false
+abbrev pub is_wish : Option Wish → Bool
+is_wish (Some w) = true
+is_wish None = false
 
 -- and which one
-abbrev pub wish_of : Want → Wish
-wish_of (Wanted w) = w
-wish_of Nothing = Hold
+abbrev pub wish_of : Option Wish → Wish
+wish_of (Some w) = w
+wish_of None = Hold
 
 -- what a reader of wishes may give for w: a wish that asks for the same units at every speed, and none where w is none
-pub record WantedAs (w r : Want) : Type 0 where
+pub record WantedAs (w r : Option Wish) : Type 0 where
   pub ok : is_wish r ≡ is_wish w
   pub units : (v : ℕ) → units_of (wish_of r) v ≡ units_of (wish_of w) v
 
--- what is told of the `want=` line at a place: whether there is one, a wish with its units, or hold, and the place after it, or the place itself
-pub record WantRead (input : List ℕ) (at : ℕ) (r : Asked) : Type 0 where
-  pub ok : r.ok ≡ is_wish (want_in (drop at input))
-  pub units : (v : ℕ) → units_of r.wish v ≡ units_of (wish_of (want_in (drop at input))) v
-  pub next : r.next ≡ cond (is_wish (want_in (drop at input))) (at + suc (line_length (drop at input))) at
+-- what is told of the `want=` line that a text begins with: a wish, or none, and where there is one, what follows the line is left
+pub record WantRead (t : List ℕ) (r : Option Wish) (rest : List ℕ) : Type 0 where
+  pub asks : WantedAs (want_in t) r
+  pub rest_is : is_wish r ≡ true → rest ≡ drop (suc (line_length t)) t
+  pub within : is_wish r ≡ true → suc (line_length t) ≤ length t
 
 -- a line with a wish, and what follows it
 unfoldable pub want : List ℕ → (Wish → List ℕ → Parsed) → Parsed
@@ -134,31 +124,35 @@ cycle_lines t =
 unfoldable pub show_call : Call
 show_call = text_call (replicate longest_text 0)
 
--- what a `call=` line begins, by its word
-unfoldable pub kind_of : (word : List ℕ) → Kind
+-- what a `call=` line begins
+pub data Kind : Type 0 where
+  Start : Kind
+  Enter : Kind
+  Leave : Kind
+  Cycle : Kind
+  Show : Kind
+  Surface : Kind
+
+-- and which, by its word
+unfoldable pub kind_of : (word : List ℕ) → Option Kind
 kind_of word =
-    cond (is_word (ascii "start") word) Start
-    (cond (is_word (ascii "enter") word) Enter
-    (cond (is_word (ascii "leave") word) Leave
-    (cond (is_word (ascii "cycle") word) Cycle
-    (cond (is_word (ascii "show") word) Show
-    (cond (is_word (ascii "surface") word) Surface Unknown)))))
+    cond (is_word (ascii "start") word) (Some Start)
+    (cond (is_word (ascii "enter") word) (Some Enter)
+    (cond (is_word (ascii "leave") word) (Some Leave)
+    (cond (is_word (ascii "cycle") word) (Some Cycle)
+    (cond (is_word (ascii "show") word) (Some Show)
+    (cond (is_word (ascii "surface") word) (Some Surface) None)))))
 
 -- the lines of each kind after it
-abbrev pub lines_of : Kind → List ℕ → Parsed
-lines_of Start t = start_lines t
-lines_of Enter t = enter_lines t
-lines_of Leave t = leave_lines t
-lines_of Cycle t = cycle_lines t
-lines_of Show t = parsed show_call 0
-lines_of Surface t = surface_lines t
-lines_of Unknown t = malformed
+abbrev pub lines_of : Option Kind → List ℕ → Parsed
+lines_of (Some Start) t = start_lines t
+lines_of (Some Enter) t = enter_lines t
+lines_of (Some Leave) t = leave_lines t
+lines_of (Some Cycle) t = cycle_lines t
+lines_of (Some Show) t = parsed show_call 0
+lines_of (Some Surface) t = surface_lines t
+lines_of None t = malformed
 
 -- the block that a text begins with; the word is empty where there is no `call=` line
 unfoldable pub block_in : List ℕ → Parsed
 block_in t = after_line t (lines_of (kind_of (line_value (ascii "call=") t)))
-
--- where a block's lines are read: the place after its `call=` line, and a buffer for its answer
-pub record Begun (input : List ℕ) (at first : ℕ) (buffer : List ℕ) : Type 0 where
-  pub room : answer_space ≤ length buffer
-  pub after : first ≡ at + suc (line_length (drop at input))

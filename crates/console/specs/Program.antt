@@ -1,10 +1,10 @@
 -- Document 01, "Call texts": the program, block by block, and its whole output.
-use Rattle.std.specs.Prelude.{ℕ, zero, suc, ◌+◌, ◌≤◌, ◌≡◌, Bool, true, false, cond, List, [], ◌++◌, eqb, leb, ltb, length, drop}
+use Rattle.std.specs.Prelude.{ℕ, zero, suc, ◌+◌, ◌≤◌, ◌≡◌, Bool, true, false, cond, Option, MatchOption, List, [], ◌++◌, eqb, leb, ltb, length, drop}
 use Rattle.text.specs.Lines.{written}
 use Rattle.lane.specs.Surface.{house_rows}
 use Rattle.lane.specs.State.{State}
 use Rattle.lane.specs.Layout.{Words, state_of}
-use Rattle.lane.specs.Call.{call_answer, call_state}
+use Rattle.lane.specs.Call.{Call, call_answer, call_state}
 use Rattle.console.specs.declared.Stepped.{Stepped}
 use Rattle.console.specs.Limits.{longest_input, answer_space}
 use Rattle.console.specs.Blocks.{Parsed, parsed, malformed, block_in}
@@ -63,6 +63,32 @@ pub record StepGives (before : Words) (x : Step) (at : ℕ) (buffer : List ℕ) 
 -- the same where the step runs the block that was read
 abbrev pub RunGives : (before : Words) (p : Parsed) (at : ℕ) (buffer : List ℕ) (r : Stepped) (after : Words) (left : List ℕ) → Type 0
 RunGives before p at buffer r after left = StepGives before (ran (state_of before) p) at buffer r after left
+
+-- so much put at the start of a buffer with these bytes
+pub record Puts (output buffer : List ℕ) (w : ℕ) (left : List ℕ) : Type 0 where
+  pub written_length : w ≡ length output
+  pub room : length output ≤ length buffer
+  pub bytes : left ≡ written 0 output buffer
+
+-- what a call that is run leaves and puts
+pub record CallGives (before : Words) (x : Call) (buffer : List ℕ) (w : ℕ) (after : Words) (left : List ℕ) : Type 0 where
+  pub state : state_of after ≡ call_state x (state_of before)
+  pub kept : keeps_lane x (call_answer x (state_of before)) ≡ true → after ≡ before
+  pub puts : Puts (printed x (call_answer x (state_of before))) buffer w left
+
+-- what a block that a text begins with leaves and puts, and that what follows it is left of the text
+pub record BlockRun (before : Words) (p : Parsed) (t buffer : List ℕ) (w : ℕ) (after : Words) (left rest : List ℕ) : Type 0 where
+  pub call : Call
+  pub used : ℕ
+  pub block : p ≡ parsed call used
+  pub within : used ≤ length t
+  pub rest_is : rest ≡ drop used t
+  pub gives : CallGives before call buffer w after left
+
+-- the same, or there is none, and nothing is run or put
+abbrev pub BlockGives : (before : Words) (p : Parsed) (t buffer : List ℕ) (r : Option ℕ) (after : Words) (left rest : List ℕ) → Type 0
+BlockGives before p t buffer r after left rest =
+    MatchOption r ((p ≡ malformed) × (after ≡ before) × (left ≡ buffer)) (λ w. BlockRun before p t buffer w after left rest)
 
 -- the lane before the first block: it is empty and was never started; document 02, T-01: "the house rows serve until a table is loaded"
 abbrev pub never_started : State

@@ -11,6 +11,7 @@ ghost use Rattle.lane.specs.Layout.{state_of};
 ghost use Rattle.console.specs.Program.{length_answer, step_into, StepGives};
 
 use lane::Lane;
+use text::Lines;
 
 // The most bytes of an input.
 pub const LONGEST_INPUT: usize = 65536;
@@ -53,7 +54,8 @@ pub fn refuse_long(bytes: usize, out: &mut [u8]) -> usize
     0
 }
 
-// The block at a place of the input: read whole, run on the lane, and its answer put at the buffer's start.
+// The block at a place of the input: read whole, run on the lane, and its answer put at the buffer's start. 8 is printed where there is none, and
+// the place is then as it was.
 pub fn step(l: &mut Lane, input: &[u8], at: usize, out: &mut [u8]) -> Stepped
     ensures { StepGives l.old (step_into out.old (state_of l.old) (drop at input.now)) at out.old result l.new out.new }
 {
@@ -63,5 +65,19 @@ pub fn step(l: &mut Lane, input: &[u8], at: usize, out: &mut [u8]) -> Stepped
     if input.len() <= at {
         return halted(at, 0);
     }
-    blocks::block(l, input, at, out)
+    let mut lines = Lines { rest: &input[at..] };
+    match blocks::block(l, &mut lines, out) {
+        Some(written) => Stepped {
+            next: input.len() - lines.rest.len(),
+            written,
+            no: 0, // a refused block's is printed
+            stop: false,
+        },
+        None => Stepped {
+            next: at,
+            written: runs::put_refusal(8, out),
+            no: 0, // the block's own is printed
+            stop: true,
+        },
+    }
 }

@@ -1,30 +1,27 @@
 -- The laws of two carriers: all that the crates above use of `specs/`, whose definitions they leave shut.
 -- b and B are any rates with 1 ≤ b ≤ B; nothing here knows of rows, places or lanes.
 use mathlib.Core.Path.{◌≡◌, refl, sym, ap, ◌∙◌}
-use mathlib.Core.Bool.{Bool, true, false, ◌&&◌, and-eq-true_iff}
+use mathlib.Core.Bool.{true, ◌&&◌}
 use Prim.Native.Nat.{ℕ, zero, suc, ◌+◌, ◌-◌, ◌*◌, ◌/◌, ◌%◌, ◌^◌, ◌≤◌, ◌<◌, min}
 use native.Mathlib.Nat.{add-zero, le_refl, le_trans, sub_self}
 use native.Mathlib.Omega.{arith}
 use borrow.Author.Tests.{lt-ltb, ltb-true}
 use lib.Dec.{ltb}
-use lib.IntN.{ℤ, pos, neg_ℤ, ◌+ℤ◌, ◌-ℤ◌, ◌*ℤ◌, +ℤ_assoc, +ℤ_comm, *ℤ-zero}
+use Rattle.std.proofs.lemmas.Bool.Decides.{nat_tests}
+use Rattle.std.proofs.lemmas.Int.{ints}
+use lib.IntN.{ℤ, pos, neg_ℤ, nat_abs, ◌+ℤ◌, ◌-ℤ◌, ◌*ℤ◌, +ℤ_assoc, +ℤ_comm, *ℤ-zero}
 use lib.Signed.{◌≤ℤ◌, ◌<ℤ◌, ≤ℤ_refl}
 use Rattle.headway.specs.Motion.{speed_after, position_after, position_at}
 use Rattle.headway.specs.Stopping.{braking, slowed, gained, stopping_distance, safe_behind}
 use Rattle.headway.specs.Wishes.{rests_behind}
 use Rattle.headway.specs.Totals.{rest_of, safe_of, passes_of}
-use Rattle.headway.proofs.Integers.{pos_minus, reached, lt_pos, neg_le, at_least}
+use Rattle.headway.proofs.Integers.{lt_pos}
 use Rattle.headway.proofs.Motion.{weighted_at, speed_is, position_sum_is, position_is, trajectory_is, from_to, braked, driven, slower}
-use Rattle.headway.proofs.Signed.{is_speed_is}
-use Rattle.headway.proofs.Totals.{two_rates, rest_is}
+use Rattle.headway.proofs.Totals.{two_rates, rest_is, is_speed_is}
 use Rattle.headway.proofs.Stopping as S
 use Rattle.headway.proofs.Pair.{braking_gains, weighted, stops_apart, middle_apart, ends_apart}
 
 -- ---- one cycle
-
--- a difference that is not negative is one of natural numbers
-pub difference : (x y : ℕ) → y ≤ x → pos x +ℤ neg_ℤ (pos y) ≡ pos (x - y)
-difference = pos_minus
 
 -- "−c, or −v where v is below c"
 pub braking_is : (c v : ℕ) → braking c v ≡ neg_ℤ (pos (min c v))
@@ -33,7 +30,7 @@ braking_is c v = refl
 
 -- the speed to which an acceleration of at least −v leads
 leads : (v : ℕ) (a : ℤ) → neg_ℤ (pos v) ≤ℤ a → (u : ℕ) × (pos v +ℤ a ≡ pos u)
-leads v a h = let r = reached v v a (le_refl v) h in (r.0, r.1)
+leads v a h = (nat_abs (pos v +ℤ a), omega (arith, ints))
 
 -- "One cycle with a: the speed becomes v + a, the position p + 2v + a", for every acceleration of at least −v: neither sum is negative, and no
 -- absolute value folds it
@@ -47,7 +44,7 @@ position_sum p v a h =
 
 -- what is no harder than braking at some rate is such an acceleration
 pub not_past_rest : (c v : ℕ) (a : ℤ) → braking c v ≤ℤ a → neg_ℤ (pos v) ≤ℤ a
-not_past_rest c v a h = let d = driven c v a h in at_least v a d.0 d.1
+not_past_rest c v a h = let d = driven c v a h in omega (arith, ints, d.1)
 
 -- "After the fraction k/n of it (n at least 1, k from 0 to n), n² times the position is n²p + 2vkn + ak²."
 pub fraction_form : (n k p v : ℕ) (a : ℤ) → position_at n k p v a ≡ pos (n * n * p) +ℤ pos (2 * v * k * n) +ℤ a *ℤ pos (k * k)
@@ -101,12 +98,12 @@ braking_speed = braked
 
 pub safe_is : (b B p v pL vL : ℕ) → 1 ≤ b → 1 ≤ B → safe_of b B p v pL vL ≡ safe_behind b B p v pL vL
 unfolding safe_of
-safe_is b B p v pL vL hb hB = rw (two_rates b B (λ e. omega arith) (λ e. omega arith)) refl
+safe_is b B p v pL vL hb hB = rw (two_rates b B hb hB) refl
 
 pub passes_is : (b B p v : ℕ) (w : ℤ) (pL vL u : ℕ) → 1 ≤ b → 1 ≤ B → pos v +ℤ w ≡ pos u → u < 2 ^ 32
     → passes_of b B p v w pL vL ≡ rests_behind b B p v w pL vL
 unfolding passes_of
-passes_is b B p v w pL vL u hb hB e h = rw (two_rates b B (λ f. omega arith) (λ f. omega arith), is_speed_is v w u e h) refl
+passes_is b B p v w pL vL u hb hB e h = rw (two_rates b B hb hB, is_speed_is v w u e h) refl
 
 -- ---- the stopping distance
 
@@ -134,7 +131,7 @@ stopping_most c v w hc h = le_trans (S.mono {c = c} {d = c} {v = v} {w = w} (le_
 
 -- from the lane's start a carrier comes to rest where it ends
 pub rest_from_start : (c v : ℕ) → 1 ≤ c → rest_of c 0 v ≡ stopping_distance c v
-rest_from_start c v hc = sym (rest_is c 0 v (λ z. omega arith)) ∙ omega arith
+rest_from_start c v hc = sym (rest_is c 0 v hc) ∙ omega arith
 
 -- ---- safe behind
 
@@ -145,35 +142,26 @@ pub record Safe (b B p v pL vL : ℕ) : Type 0 where
 -- the test says both halves, and is passed where both hold
 pub safe_says : (b B p v pL vL : ℕ) → safe_behind b B p v pL vL ≡ true → Safe b B p v pL vL
 unfolding safe_behind
-safe_says b B p v pL vL e =
-    let h = (and-eq-true_iff (ltb p pL) (ltb (p + stopping_distance b v) (pL + stopping_distance B vL))).0 e in
-    record { below = ltb-true p pL h.0; stops_below = ltb-true (p + stopping_distance b v) (pL + stopping_distance B vL) h.1 }
+safe_says b B p v pL vL e = record { below = grind (arith, nat_tests); stops_below = grind (arith, nat_tests) }
 
 pub safe_holds : (b B p v pL vL : ℕ) → Safe b B p v pL vL → safe_behind b B p v pL vL ≡ true
 unfolding safe_behind
-safe_holds b B p v pL vL h = rw (lt-ltb _ _ h.below, lt-ltb _ _ h.stops_below) refl
+safe_holds b B p v pL vL h = grind (arith, nat_tests)
 
 -- the same by where the two rest
 pub safe_by_rests : (b B p v pL vL : ℕ) → 1 ≤ b → 1 ≤ B → safe_behind b B p v pL vL ≡ ltb p pL && ltb (rest_of b p v) (rest_of B pL vL)
 unfolding safe_behind
-safe_by_rests b B p v pL vL hb hB = rw (← rest_is b p v (λ z. omega arith), ← rest_is B pL vL (λ z. omega arith)) refl
+safe_by_rests b B p v pL vL hb hB = rw (← rest_is b p v hb, ← rest_is B pL vL hB) refl
 
 -- a position moved by m moves the rest
 pub rest_moved : (c p m v : ℕ) → 1 ≤ c → rest_of c (p + m) v ≡ rest_of c p v + m
-rest_moved c p m v hc = rw (← rest_is c (p + m) v (λ z. omega arith), ← rest_is c p v (λ z. omega arith)) (omega arith)
+rest_moved c p m v hc = rw (← rest_is c (p + m) v hc, ← rest_is c p v hc) (omega arith)
 
 -- behind one ahead of length m, the length on the follower's side, is behind a point at its tail; and nothing can tell whether a tail before the
 -- start is taken as 0, since nobody is behind it either way
 pub safe_behind_tail : (b B p m v pL vL : ℕ) → safe_behind b B (p + m) v pL vL ≡ safe_behind b B p v (pL - m) vL
-safe_behind_tail b B p m v pL vL =
-    alike (safe_behind b B (p + m) v pL vL) (safe_behind b B p v (pL - m) vL)
-    (λ e. let h = safe_says b B (p + m) v pL vL e in safe_holds b B p v (pL - m) vL (record { below = omega arith; stops_below = omega arith }))
-    (λ e. let h = safe_says b B p v (pL - m) vL e in safe_holds b B (p + m) v pL vL (record { below = omega arith; stops_below = omega arith }))
-  where
-    alike : (s t : Bool) → (s ≡ true → t ≡ true) → (t ≡ true → s ≡ true) → s ≡ t
-    alike true t f g = sym (f refl)
-    alike false true f g = g refl
-    alike false false f g = refl
+unfolding safe_behind
+safe_behind_tail b B p m v pL vL = grind (arith, nat_tests)
 
 -- what lets a carrier leave from the middle, whose rate is c and whose length m; l is the length of the one ahead of it: who was behind its tail is
 -- behind that one's
@@ -241,7 +229,7 @@ module _ (b B p v : ℕ) (w : ℤ) (pL vL : ℕ) (a : ℤ) (hb : 1 ≤ b) (hB : 
 -- guaranteed braking is no harder than the hardest
 pub braking_order : (b B v : ℕ) → b ≤ B → braking B v ≤ℤ braking b v
 unfolding braking
-braking_order b B v h = neg_le (min B v) (min b v) (omega arith)
+braking_order b B v h = omega (arith, ints)
 
 pub stops_without_touching : (b B p v pL vL : ℕ) → 1 ≤ b → b ≤ B → safe_behind b B p v pL vL ≡ true
     → (j n k : ℕ) → 1 ≤ n → k ≤ n

@@ -3,6 +3,5 @@ mod Integers
 mod Motion
 mod Stopping
 mod Pair
-mod Signed
 mod Totals
 pub mod Laws

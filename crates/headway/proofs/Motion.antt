@@ -1,13 +1,14 @@
 -- One cycle in natural numbers: with u the speed afterwards, a carrier gains v + u.
 use mathlib.Core.Path.{◌≡◌, ap, ◌∙◌, subst}
-use Prim.Native.Nat.{ℕ, ◌+◌, ◌-◌, ◌*◌, ◌≤◌, min}
+use Prim.Native.Nat.{ℕ, ◌+◌, ◌-◌, ◌*◌, ◌≤◌}
 use native.Mathlib.Nat.{add-sub_of_le}
 use native.Mathlib.Omega.{arith}
-use lib.IntN.{ℤ, pos, nat_abs, ◌+ℤ◌, ◌-ℤ◌, ◌*ℤ◌, +ℤ_comm, -ℤ-+ℤ_cancel}
+use Rattle.std.proofs.lemmas.Int.{ints}
+use lib.IntN.{ℤ, pos, nat_abs, ◌+ℤ◌, ◌-ℤ◌, ◌*ℤ◌}
 use lib.Signed.{◌≤ℤ◌}
 use Rattle.headway.specs.Motion.{speed_after, position_after, position_at}
 use Rattle.headway.specs.Stopping.{braking}
-use Rattle.headway.proofs.Integers.{pos_minus, reached, lacks, more, times}
+use Rattle.headway.proofs.Integers.{more, times}
 
 -- (k + m)² times the position at k/(k + m): the control points p, p + v and p + v + u weighted by m², 2mk and k²
 abbrev pub weighted_at : (m k p v u : ℕ) → ℕ
@@ -19,10 +20,7 @@ module _ (v : ℕ) (a : ℤ) (u : ℕ) (e : pos v +ℤ a ≡ pos u) where
   speed_is = ap nat_abs e
 
   pub position_sum_is : (p : ℕ) → pos p +ℤ pos (2 * v) +ℤ a ≡ pos (p + v + u)
-  position_sum_is p = ap (λ (x : ℕ). pos x +ℤ a) (twice p v) ∙ more (p + v) v a u e
-    where
-      twice : (x y : ℕ) → x + 2 * y ≡ x + y + y
-      twice x y = omega arith
+  position_sum_is p = omega (arith, ints)
 
   pub position_is : (p : ℕ) → position_after p v a ≡ p + v + u
   unfolding position_after
@@ -46,24 +44,19 @@ module _ (v : ℕ) (a : ℤ) (u : ℕ) (e : pos v +ℤ a ≡ pos u) where
 
 -- the acceleration that leads from v to u
 pub from_to : (v u : ℕ) → pos v +ℤ (pos u -ℤ pos v) ≡ pos u
-from_to v u = +ℤ_comm (pos v) (pos u -ℤ pos v) ∙ -ℤ-+ℤ_cancel (pos u) (pos v)
+from_to v u = omega (arith, ints)
 
 -- braking takes the speed to v − c, or to 0
 pub braked : (c v : ℕ) → pos v +ℤ braking c v ≡ pos (v - c)
 unfolding braking
-braked c v = pos_minus v (min c v) (omega arith) ∙ ap pos (rest c v)
-  where
-    rest : (x y : ℕ) → y - min x y ≡ y - x
-    rest x y = omega arith
+braked c v = omega (arith, ints)
 
 -- an acceleration no harder than braking at rate c leads to a speed of at least v − c
 pub driven : (c v : ℕ) (a : ℤ) → braking c v ≤ℤ a → (u : ℕ) × (pos v +ℤ a ≡ pos u) × (v - c ≤ u)
 unfolding braking
-driven c v a h =
-    let r = reached v (min c v) a (omega arith) h in
-    (r.0, r.1, omega (arith, r.2))
+driven c v a h = (nat_abs (pos v +ℤ a), omega (arith, ints), omega (arith, ints))
 
 -- an acceleration at least as hard as braking at rate c leads to a speed of at most v − c
 pub slower : (c v : ℕ) (a : ℤ) (u : ℕ) → pos v +ℤ a ≡ pos u → a ≤ℤ braking c v → u ≤ v - c
 unfolding braking
-slower c v a u e h = omega (arith, lacks v (min c v) a u e h)
+slower c v a u e h = omega (arith, ints)

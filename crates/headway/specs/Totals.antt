@@ -1,17 +1,14 @@
 -- What the functions give for every number, also those that document 01 leaves out; docs/DECISIONS.md has the reasons.
-use Rattle.std.specs.Prelude.{ℕ, ◌+◌, Bool, ◌&&◌, cond, ltb, ℤ, pos, ◌+ℤ◌}
+use Rattle.std.specs.Prelude.{ℕ, ◌+◌, Bool, ◌&&◌, cond, ltb, ℤ, pos, ◌+ℤ◌, Option, Some, None}
 use Rattle.std.specs.Int.Signed.{le_z, lt_z}
 use Rattle.headway.specs.Motion.{speed_after, position_after}
 use Rattle.headway.specs.Stopping.{stopping_distance, safe_behind}
 use Rattle.headway.specs.Wishes.{rests_behind}
-use Rattle.headway.specs.declared.Stop.{Stop}
-use Rattle.headway.specs.declared.Stop.TheVariants.{Within, Never}
 use Rattle.headway.specs.declared.Moved.{Moved}
-use Rattle.headway.specs.declared.Moved.TheVariants.{To, Outside}
 
 -- at a rate of 0 nothing comes to rest
-unfoldable pub stop_of : ℕ → ℕ → Stop
-stop_of c v = cond (ltb 0 c) (Within (stopping_distance c v)) Never
+unfoldable pub stop_of : ℕ → ℕ → Option ℕ
+stop_of c v = cond (ltb 0 c) (Some (stopping_distance c v)) None
 
 -- where a carrier rests; at a rate of 0 it is 0, below which nobody rests
 unfoldable pub rest_of : (c p v : ℕ) → ℕ
@@ -26,8 +23,8 @@ unfoldable pub is_speed : ℕ → ℤ → Bool
 is_speed v a = le_z (pos 0) (pos v +ℤ a) && lt_z (pos v +ℤ a) (pos 4294967296)
 
 -- one cycle: where v + a is no speed there is none
-unfoldable pub moved_of : ℕ → ℕ → ℤ → Moved
-moved_of p v a = cond (is_speed v a) (To (position_after p v a) (speed_after v a)) Outside
+unfoldable pub moved_of : ℕ → ℕ → ℤ → Option Moved
+moved_of p v a = cond (is_speed v a) (Some (record { position = position_after p v a; speed = speed_after v a })) None
 
 -- two rates at which carriers come to rest
 unfoldable pub rated : ℕ → ℕ → Bool

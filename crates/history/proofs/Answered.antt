@@ -11,13 +11,14 @@ use lib.Ieee.Exact.{HasValue}
 use lib.ListN.{length}
 use Rattle.wish.specs.declared.Wish.{Wish}
 use Rattle.lane.specs.declared.Carrier.{Carrier}
+use Rattle.std.specs.Prelude.{Option, Result, Ok, Err, IfOk}
+use Rattle.wish.specs.declared.Reading.{Reading}
 use Rattle.lane.specs.declared.Cycled.{Cycled}
-use Rattle.lane.specs.declared.Entered.{Entered}
-use Rattle.lane.specs.declared.Listed.{Listed}
 use Rattle.lane.specs.declared.Gap.{Gap}
 use Rattle.lane.specs.declared.Newcomer.{Newcomer}
 use Rattle.lane.specs.declared.Opening.{Opening}
-use Rattle.lane.specs.declared.ReadOut.{ReadOut}
+use Rattle.lane.specs.declared.refusal.Refusal.{Refusal}
+use Rattle.lane.specs.Refusals.{outcome_no}
 use Rattle.lane.specs.declared.Road.{Road}
 use Rattle.lane.specs.State.{State}
 use Rattle.lane.specs.Layout.{Words, state_of, with_code}
@@ -91,6 +92,11 @@ Exact s number a =
     a.number ≡ 0
     → HasValue a.reading.position false (named_carrier s number).position 2048 × HasValue a.reading.speed false (named_carrier s number).speed 128
 
+exact_reading : (s : State) (number : ℕ) (r : Result Reading Refusal) → Exact s number (read_out r)
+    → IfOk r (λ reading. HasValue reading.position false (named_carrier s number).position 2048 × HasValue reading.speed false (named_carrier s number).speed 128)
+exact_reading s number (Ok reading) e = e refl
+exact_reading s number (Err refusal) e = tt
+
 -- the one word that an accepted change of surface puts
 pub surface_puts : (l : Words) (code : ℕ) {no : ℕ} → call_answer (surface_call code) (state_of l) ≡ bare no [] → no ≡ 0 → left (surface_call code) l ≡ with_code code l
 surface_puts l code e z =
@@ -113,7 +119,7 @@ did (cycle_call count wishes) l t =
 did (read_call number) l t =
     let x = read_call number in
     let r = returned x (state_of l) in
-    ((gives_some x l).2 refl, shows (r.0, r.1, (reads_as x l refl r.1, subst (Exact (state_of l) number) r.1 (read_exact (state_of l) number))))
+    ((gives_some x l).2 refl, shows (r.0, r.1, (reads_as x l refl r.1, exact_reading (state_of l) number r.0 (subst (Exact (state_of l) number) r.1 (read_exact (state_of l) number)))))
 did (opening_call g n) l t =
     let x = opening_call g n in
     let r = returned x (state_of l) in
@@ -143,29 +149,29 @@ every_list l (x ∷ xs) t =
 -- for every reference and every argument a contract asks nothing of its caller, and what it then says of an answer and of the lane left is a
 -- step, or for `take_over` the beginning of a list; and every step may go before every list
 pub each_contract : (κ : Lfts 1) (κs : Lfts 2) (l : MutBor Words) (seen : Bor Words) (m : Words) (road : Road) (c : Carrier) (n : ℕ) (ws : List Wish) (g : Gap) (newcomer : Newcomer) (text : Bor (List ℕ)) (out : MutBor (List ℕ))
-    → (start-reads.Asked κ (l, (road, (n, tt))) × ((no : ℕ) → start-reads.Learnt κ (l, (road, (n, tt))) no (at_last l m, (road, (n, tt))) → Did (start_call road n) l.now (bare no []) m))
-    × (load-reads.Asked κs (l, (text, tt)) × ((no : ℕ) → load-reads.Learnt κs (l, (text, tt)) no (at_last l m, (text, tt)) → Did (load_call text.now) l.now (bare no []) m))
-    × (enter-reads.Asked κ (l, (c, tt)) × ((r : Entered) → enter-reads.Learnt κ (l, (c, tt)) r (at_last l m, (c, tt)) → Did (enter_call c) l.now (entered r) m))
-    × (leave-reads.Asked κ (l, (n, tt)) × ((no : ℕ) → leave-reads.Learnt κ (l, (n, tt)) no (at_last l m, (n, tt)) → Did (leave_call n) l.now (bare no []) m))
-    × (surface-reads.Asked κ (l, (n, tt)) × ((no : ℕ) → surface-reads.Learnt κ (l, (n, tt)) no (at_last l m, (n, tt)) → Did (surface_call n) l.now (bare no []) m))
-    × (cycle-reads.Asked κ (l, (n, (ws, tt))) × (length ws ≡ 64 → (r : Cycled) → cycle-reads.Learnt κ (l, (n, (ws, tt))) r (at_last l m, (n, (ws, tt))) → Did (cycle_call n ws) l.now (cycled r) m))
-    × (read-reads.Asked κ (seen, (n, tt)) × ((r : ReadOut) → read-reads.Learnt κ (seen, (n, tt)) r (seen, (n, tt)) → Did (read_call n) seen.now (read_out r) seen.now))
-    × (opening-reads.Asked κ (seen, (g, (newcomer, tt))) × ((r : Opening) → opening-reads.Learnt κ (seen, (g, (newcomer, tt))) r (seen, (g, (newcomer, tt))) → Did (opening_call g newcomer) seen.now (opening r) seen.now))
-    × (text-reads.Asked κs (seen, (out, tt)) × ((r : Listed) (bytes : List ℕ) → text-reads.Learnt κs (seen, (out, tt)) r (seen, (at_last out bytes, tt)) → Did (text_call out.now) seen.now (listed r bytes) seen.now))
-    × (handover-reads.Asked κs (seen, (out, tt)) × ((r : Listed) (bytes : List ℕ) → handover-reads.Learnt κs (seen, (out, tt)) r (seen, (at_last out bytes, tt)) → Did (handover_call out.now) seen.now (listed r bytes) seen.now))
-    × (take-over-reads.Asked κs (l, (text, tt)) × ((no : ℕ) → take-over-reads.Learnt κs (l, (text, tt)) no (at_last l m, (text, tt)) → Begins m (begun_from text.now)))
+    → (start-reads.Asked κ (l, (road, (n, tt))) × ((r : Result (Unit {0}) Refusal) → start-reads.Learnt κ (l, (road, (n, tt))) r (at_last l m, (road, (n, tt))) → Did (start_call road n) l.now (bare (outcome_no r) []) m))
+    × (load-reads.Asked κs (l, (text, tt)) × ((r : Result (Unit {0}) Refusal) → load-reads.Learnt κs (l, (text, tt)) r (at_last l m, (text, tt)) → Did (load_call text.now) l.now (bare (outcome_no r) []) m))
+    × (enter-reads.Asked κ (l, (c, tt)) × ((r : Result ℕ Refusal) → enter-reads.Learnt κ (l, (c, tt)) r (at_last l m, (c, tt)) → Did (enter_call c) l.now (entered r) m))
+    × (leave-reads.Asked κ (l, (n, tt)) × ((r : Result (Unit {0}) Refusal) → leave-reads.Learnt κ (l, (n, tt)) r (at_last l m, (n, tt)) → Did (leave_call n) l.now (bare (outcome_no r) []) m))
+    × (surface-reads.Asked κ (l, (n, tt)) × ((r : Result (Unit {0}) Refusal) → surface-reads.Learnt κ (l, (n, tt)) r (at_last l m, (n, tt)) → Did (surface_call n) l.now (bare (outcome_no r) []) m))
+    × (cycle-reads.Asked κ (l, (n, (ws, tt))) × (length ws ≡ 64 → (r : Result Cycled Refusal) → cycle-reads.Learnt κ (l, (n, (ws, tt))) r (at_last l m, (n, (ws, tt))) → Did (cycle_call n ws) l.now (cycled r) m))
+    × (read-reads.Asked κ (seen, (n, tt)) × ((r : Result Reading Refusal) → read-reads.Learnt κ (seen, (n, tt)) r (seen, (n, tt)) → Did (read_call n) seen.now (read_out r) seen.now))
+    × (opening-reads.Asked κ (seen, (g, (newcomer, tt))) × ((r : Result (Option Opening) Refusal) → opening-reads.Learnt κ (seen, (g, (newcomer, tt))) r (seen, (g, (newcomer, tt))) → Did (opening_call g newcomer) seen.now (opening r) seen.now))
+    × (text-reads.Asked κs (seen, (out, tt)) × ((r : Result ℕ Refusal) (bytes : List ℕ) → text-reads.Learnt κs (seen, (out, tt)) r (seen, (at_last out bytes, tt)) → Did (text_call out.now) seen.now (listed r bytes) seen.now))
+    × (handover-reads.Asked κs (seen, (out, tt)) × ((r : Result ℕ Refusal) (bytes : List ℕ) → handover-reads.Learnt κs (seen, (out, tt)) r (seen, (at_last out bytes, tt)) → Did (handover_call out.now) seen.now (listed r bytes) seen.now))
+    × (take-over-reads.Asked κs (l, (text, tt)) × ((r : Result (Unit {0}) Refusal) → take-over-reads.Learnt κs (l, (text, tt)) r (at_last l m, (text, tt)) → Begins m (begun_from text.now)))
     × ((e : Event) (es : List Event) (d : Words) → Did e.call l.now e.answer e.left → Ran e.left es d → Ran l.now (e ∷ es) d)
 each_contract κ κs l seen m road c n ws g newcomer text out = (
-  (tt, λ no s. of_lane exclusive κ l (no, refl, s)),
-  (tt, λ no s. of_both exclusive shared κs l text (no, refl, s)),
   (tt, λ r s. of_lane exclusive κ l (r, refl, s)),
-  (tt, λ no s. of_lane exclusive κ l (no, refl, s)),
-  (tt, λ no s. of_lane exclusive κ l (no, refl, s)),
+  (tt, λ r s. of_both exclusive shared κs l text (r, refl, s)),
+  (tt, λ r s. of_lane exclusive κ l (r, refl, s)),
+  (tt, λ r s. of_lane exclusive κ l (r, refl, s)),
+  (tt, λ r s. of_lane exclusive κ l (r, refl, s)),
   (tt, λ e r s. (e, of_lane exclusive κ l (r, refl, s))),
   (tt, λ r s. (refl, of_lane shared κ seen (r, refl, s))),
   (tt, λ r s. (refl, of_lane shared κ seen (r, refl, s))),
   (tt, λ r bytes s. (refl, of_both shared exclusive κs seen out (r, refl, s))),
   (tt, λ r bytes s. (refl, of_both shared exclusive κs seen out (r, refl, s))),
-  (tt, λ no s. from_text text.now no m s),
+  (tt, λ r s. from_text text.now (outcome_no r) m s),
   λ e es d h r. then h r,
 )

@@ -16,7 +16,7 @@ use Rattle.headway.specs.Wishes.{rests_behind}
 use Rattle.headway.proofs.Laws.{fraction_form, fraction_at_start, fraction_at_end, braking_is}
 use Rattle.wish.specs.Units.{units_of}
 use Rattle.wish.specs.Trimming.{trimmed_to}
-use Rattle.wish.specs.declared.Converted.TheVariants.{Units}
+use Rattle.std.specs.Prelude.{Some}
 use Rattle.wish.specs.declared.Wish.{Wish}
 use Rattle.wish.specs.declared.Wish.TheVariants.{Hold}
 use Rattle.lane.specs.declared.Carrier.{Carrier}
@@ -187,7 +187,7 @@ module _ (after : Words) (count word : ℕ) (ws : List Wish) (b : Book)
       neither false = refl
 
 -- a wish is trimmed by the row's B and A and by the limit, whatever the carrier's own rate
-pub trimmed_by_the_row : (b : Book) (c : Carrier) (w : Wish) (z : ℤ) → units_of w c.speed ≡ Units z
+pub trimmed_by_the_row : (b : Book) (c : Carrier) (w : Wish) (z : ℤ) → units_of w c.speed ≡ Some z
     → trimmed_in b c w ≡ trimmed_to z c.speed (row_in b.tables b.road).hardest (row_in b.tables b.road).most b.road.limit
 unfolding trimmed_in
 trimmed_by_the_row b c w z e = rw e refl

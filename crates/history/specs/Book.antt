@@ -1,12 +1,10 @@
 -- Document 01, "The road book": "It says where carriers that drive as told are." It has a walk, a trimming, a
 -- braking and a motion of its own.
-use Rattle.std.specs.Prelude.{ℕ, ◌+◌, ◌/◌, ◌%◌, min, Bool, cond, List, [], ◌∷◌, eqb, leb, ltb, ℤ, pos}
+use Rattle.std.specs.Prelude.{ℕ, ◌+◌, ◌/◌, ◌%◌, min, Bool, cond, Option, Some, None, List, [], ◌∷◌, eqb, leb, ltb, ℤ, pos}
 use Rattle.headway.specs.Motion.{speed_after, position_after}
 use Rattle.headway.specs.Stopping.{braking}
 use Rattle.wish.specs.Units.{units_of}
 use Rattle.wish.specs.Trimming.{trimmed_to}
-use Rattle.wish.specs.declared.Converted.{Converted}
-use Rattle.wish.specs.declared.Converted.TheVariants.{Units, Outside}
 use Rattle.wish.specs.declared.Wish.{Wish}
 use Rattle.lane.specs.declared.Carrier.{Carrier}
 use Rattle.lane.specs.declared.Road.{Road}
@@ -63,9 +61,9 @@ take_out number [] = []
 take_out number (c ∷ cs) = cond (eqb c.number number) cs (c ∷ take_out number cs)
 
 -- "made into units"; a cycle with a float outside its range is refused, so none is driven
-abbrev pub units_from : Converted → ℤ
-units_from (Units z) = z
-units_from Outside = pos 0
+abbrev pub units_from : Option ℤ → ℤ
+units_from (Some z) = z
+units_from None = pos 0
 
 -- "wish i, made into units and trimmed with the book's figures"
 unfoldable pub trimmed_in : Book → Carrier → Wish → ℤ

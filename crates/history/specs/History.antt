@@ -1,14 +1,14 @@
 -- A history: calls with what they answered and the lane that each left, each on the lane that the one before left, and demand 3 along it.
-use Rattle.std.specs.Prelude.{ℕ, suc, ◌≤◌, ◌<◌, ◌≡◌, Bool, true, false, not, ◌&&◌, ◌||◌, List, [], ◌∷◌, ◌++◌, map, eqb, length}
+use Rattle.std.specs.Prelude.{ℕ, suc, ◌≤◌, ◌<◌, ◌≡◌, Bool, true, false, not, ◌&&◌, ◌||◌, List, [], ◌∷◌, ◌++◌, map, eqb, length, Option, Result}
 use contract.Lifetimes.{Lfts}
 use denote.Bor.{Bor}
 use denote.Ref.{MutBor, at_last}
+use Rattle.wish.specs.declared.Reading.{Reading}
 use Rattle.lane.specs.declared.Cycled.{Cycled}
-use Rattle.lane.specs.declared.Entered.{Entered}
-use Rattle.lane.specs.declared.Listed.{Listed}
 use Rattle.lane.specs.declared.Opening.{Opening}
-use Rattle.lane.specs.declared.ReadOut.{ReadOut}
 use Rattle.lane.specs.declared.Road.{Road}
+use Rattle.lane.specs.declared.refusal.Refusal.{Refusal}
+use Rattle.lane.specs.Refusals.{outcome_no}
 use Rattle.lane.specs.Limits.{last_surface}
 use Rattle.lane.specs.Surface.{row_of, row_in}
 use Rattle.lane.specs.Layout.{Words, state_of}
@@ -74,28 +74,28 @@ pub record OfBoth {R S : Type 0} (behind : R → Words) (held : S → List ℕ) 
 -- what the contract of the function called says of its arguments, its answer and the lane that it left; the wishes are an array of 64
 abbrev pub Did : Call → Words → Answer → Words → Type 0
 Did (start_call road first) l a m =
-    OfLane exclusive l λ κs lane. (no : ℕ) × (a ≡ bare no []) × start-reads.Learnt κs (lane, (road, (first, tt))) no (at_last lane m, (road, (first, tt)))
+    OfLane exclusive l λ κs lane. (r : Result (Unit {0}) Refusal) × (a ≡ bare (outcome_no r) []) × start-reads.Learnt κs (lane, (road, (first, tt))) r (at_last lane m, (road, (first, tt)))
 Did (load_call text) l a m =
-    OfBoth exclusive shared l text λ κs lane t. (no : ℕ) × (a ≡ bare no []) × load-reads.Learnt κs (lane, (t, tt)) no (at_last lane m, (t, tt))
+    OfBoth exclusive shared l text λ κs lane t. (r : Result (Unit {0}) Refusal) × (a ≡ bare (outcome_no r) []) × load-reads.Learnt κs (lane, (t, tt)) r (at_last lane m, (t, tt))
 Did (enter_call c) l a m =
-    OfLane exclusive l λ κs lane. (r : Entered) × (a ≡ entered r) × enter-reads.Learnt κs (lane, (c, tt)) r (at_last lane m, (c, tt))
+    OfLane exclusive l λ κs lane. (r : Result ℕ Refusal) × (a ≡ entered r) × enter-reads.Learnt κs (lane, (c, tt)) r (at_last lane m, (c, tt))
 Did (leave_call number) l a m =
-    OfLane exclusive l λ κs lane. (no : ℕ) × (a ≡ bare no []) × leave-reads.Learnt κs (lane, (number, tt)) no (at_last lane m, (number, tt))
+    OfLane exclusive l λ κs lane. (r : Result (Unit {0}) Refusal) × (a ≡ bare (outcome_no r) []) × leave-reads.Learnt κs (lane, (number, tt)) r (at_last lane m, (number, tt))
 Did (surface_call code) l a m =
-    OfLane exclusive l λ κs lane. (no : ℕ) × (a ≡ bare no []) × surface-reads.Learnt κs (lane, (code, tt)) no (at_last lane m, (code, tt))
+    OfLane exclusive l λ κs lane. (r : Result (Unit {0}) Refusal) × (a ≡ bare (outcome_no r) []) × surface-reads.Learnt κs (lane, (code, tt)) r (at_last lane m, (code, tt))
 Did (cycle_call count wishes) l a m =
     (length wishes ≡ 64)
-    × OfLane exclusive l (λ κs lane. (r : Cycled) × (a ≡ cycled r) × cycle-reads.Learnt κs (lane, (count, (wishes, tt))) r (at_last lane m, (count, (wishes, tt))))
+    × OfLane exclusive l (λ κs lane. (r : Result Cycled Refusal) × (a ≡ cycled r) × cycle-reads.Learnt κs (lane, (count, (wishes, tt))) r (at_last lane m, (count, (wishes, tt))))
 Did (read_call number) l a m =
-    (m ≡ l) × OfLane shared l (λ κs lane. (r : ReadOut) × (a ≡ read_out r) × read-reads.Learnt κs (lane, (number, tt)) r (lane, (number, tt)))
+    (m ≡ l) × OfLane shared l (λ κs lane. (r : Result Reading Refusal) × (a ≡ read_out r) × read-reads.Learnt κs (lane, (number, tt)) r (lane, (number, tt)))
 Did (opening_call g n) l a m =
-    (m ≡ l) × OfLane shared l (λ κs lane. (r : Opening) × (a ≡ opening r) × opening-reads.Learnt κs (lane, (g, (n, tt))) r (lane, (g, (n, tt))))
+    (m ≡ l) × OfLane shared l (λ κs lane. (r : Result (Option Opening) Refusal) × (a ≡ opening r) × opening-reads.Learnt κs (lane, (g, (n, tt))) r (lane, (g, (n, tt))))
 Did (text_call buffer) l a m =
     (m ≡ l)
-    × OfBoth shared exclusive l buffer (λ κs lane out. (r : Listed) × (a ≡ listed r a.bytes) × text-reads.Learnt κs (lane, (out, tt)) r (lane, (at_last out a.bytes, tt)))
+    × OfBoth shared exclusive l buffer (λ κs lane out. (r : Result ℕ Refusal) × (a ≡ listed r a.bytes) × text-reads.Learnt κs (lane, (out, tt)) r (lane, (at_last out a.bytes, tt)))
 Did (handover_call buffer) l a m =
     (m ≡ l)
-    × OfBoth shared exclusive l buffer (λ κs lane out. (r : Listed) × (a ≡ listed r a.bytes) × handover-reads.Learnt κs (lane, (out, tt)) r (lane, (at_last out a.bytes, tt)))
+    × OfBoth shared exclusive l buffer (λ κs lane out. (r : Result ℕ Refusal) × (a ≡ listed r a.bytes) × handover-reads.Learnt κs (lane, (out, tt)) r (lane, (at_last out a.bytes, tt)))
 
 -- a list of calls, each on the lane that the one before left, each answered as its contract says
 pub data Ran : Words → List Event → Words → Type 0 where

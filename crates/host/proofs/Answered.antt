@@ -11,16 +11,12 @@ use denote.Ref.{MutBor, at_last}
 use lib.Dec.{eqb}
 use lib.ListN.{drop}
 use Rattle.lane.specs.declared.Carrier.{Carrier}
-use Rattle.lane.specs.declared.Cycled.{Cycled}
-use Rattle.lane.specs.declared.Entered.{Entered}
-use Rattle.lane.specs.declared.Listed.{Listed}
 use Rattle.lane.specs.declared.Newcomer.{Newcomer}
-use Rattle.lane.specs.declared.Opening.{Opening}
-use Rattle.lane.specs.declared.ReadOut.{ReadOut}
 use Rattle.lane.specs.declared.Road.{Road}
+use Rattle.lane.specs.Refusals.{outcome_no}
 use Rattle.lane.specs.Layout.{Words, state_of, empty_words}
 use Rattle.lane.specs.Calls.{if_accepted, ready_no}
-use Rattle.lane.specs.Call.{Call, start_call, load_call, enter_call, leave_call, surface_call, cycle_call, read_call, opening_call, text_call, handover_call, Answer, bare, entered, cycled, read_out, opening, listed, call_answer}
+use Rattle.lane.specs.Call.{Call, start_call, load_call, enter_call, leave_call, surface_call, cycle_call, read_call, opening_call, text_call, handover_call, Answer, bare, call_answer}
 use Rattle.lane.specs.Given.{wishes_no, wishes_given, GivesWith}
 use Rattle.lane.specs.Handover.{take_over_no}
 use Rattle.lane.proofs.Answerable.{gives_some, returned, read_exact}
@@ -35,6 +31,12 @@ use Rattle.history.proofs.Answered.{of_lane, of_both, lent, shown, left, gives_a
 use Rattle.console.specs.declared.Stepped.{Stepped}
 use Rattle.console.specs.History.{block_run}
 use Rattle.console.proofs.Answered.{every_step}
+use Rattle.host.specs.declared.answers.Cycled.{Cycled}
+use Rattle.host.specs.declared.answers.Entered.{Entered}
+use Rattle.host.specs.declared.answers.Listed.{Listed}
+use Rattle.host.specs.declared.answers.Opening.{Opening}
+use Rattle.host.specs.declared.answers.ReadOut.{ReadOut}
+use Rattle.host.specs.Answers.{entered, cycled, read_out, opening, listed, entered_of, cycled_of, read_out_of, opening_of, listed_of}
 use Rattle.host.specs.Gaps.{gap_given}
 use Rattle.host.proofs.Calls.{HostCall, starts, loads, enters, leaves, surfaces, cycles, reads, finds, lists, hands, steps, events_made, step_answer, Cycles, HostDid, HostRan, nothing_yet, call, all_made, Emptied, TookOver}
 use Rattle.host.proofs.History.{host_history, host_history_from_empty, host_surface_changes, host_openings, host_handovers, host_history_from_text, host_readings, host_taken_for_good, host_calls, host_never_broken}
@@ -85,7 +87,7 @@ module _ (l : Words) (count : ℕ) (sorts values : List ℕ) where
   cycles_some true e =
       let z = eqb-true (wishes_no count sorts values) 0 e in
       let r = returned x (state_of l) in
-      (r.0, left x l, cycle_of r.0 (left x l) (record { made = λ p. gives_as x l r.1; unmade = λ n. absurd (n z) }))
+      (cycled_of r.0, left x l, cycle_of (cycled_of r.0) (left x l) (record { made = λ p. gives_as x l r.1; unmade = λ n. absurd (n z) }))
   cycles_some false e =
       let r : Cycled = record { no = unmade_no; word = 0; replaced = 0; gone = 0 } in
       (r, l, cycle_of r l (record { made = λ p. absurd (eqb-false _ 0 e p); unmade = λ n. (refl, refl) }))
@@ -94,23 +96,23 @@ host_does : (x : HostCall) (l : Words) → Does x l
 host_does (starts road first) l =
     let x = start_call road first in
     let r = returned x (state_of l) in
-    record { answer = bare r.0 []; after = left x l; did = lends (r.0, refl, gives_as x l r.1) }
+    record { answer = bare (outcome_no r.0) []; after = left x l; did = lends (outcome_no r.0, refl, gives_as x l r.1) }
 host_does (loads text) l =
     let x = load_call text in
     let r = returned x (state_of l) in
-    record { answer = bare r.0 []; after = left x l; did = lends_reading (r.0, refl, gives_as x l r.1) }
+    record { answer = bare (outcome_no r.0) []; after = left x l; did = lends_reading (outcome_no r.0, refl, gives_as x l r.1) }
 host_does (enters c) l =
     let x = enter_call c in
     let r = returned x (state_of l) in
-    record { answer = entered r.0; after = left x l; did = lends (r.0, refl, gives_as x l r.1) }
+    record { answer = entered (entered_of r.0); after = left x l; did = lends (entered_of r.0, refl, gives_as x l r.1) }
 host_does (leaves number) l =
     let x = leave_call number in
     let r = returned x (state_of l) in
-    record { answer = bare r.0 []; after = left x l; did = lends (r.0, refl, gives_as x l r.1) }
+    record { answer = bare (outcome_no r.0) []; after = left x l; did = lends (outcome_no r.0, refl, gives_as x l r.1) }
 host_does (surfaces code) l =
     let x = surface_call code in
     let r = returned x (state_of l) in
-    record { answer = bare r.0 []; after = left x l; did = lends (r.0, refl, (gives_as x l r.1, surface_puts l code r.1)) }
+    record { answer = bare (outcome_no r.0) []; after = left x l; did = lends (outcome_no r.0, refl, (gives_as x l r.1, surface_puts l code r.1)) }
 host_does (cycles count sorts values) l =
     let c = cycles_some l count sorts values (eqb (wishes_no count sorts values) 0) refl in
     record { answer = cycled c.0; after = c.1; did = (c.0, refl, c.2) }
@@ -118,29 +120,29 @@ host_does (reads number) l =
     let x = read_call number in
     let r = returned x (state_of l) in
     record {
-      answer = read_out r.0;
+      answer = read_out (read_out_of r.0);
       after = left x l;
-      did = ((gives_some x l).2 refl, shows (r.0, refl, (reads_as x l refl r.1, subst (Exact (state_of l) number) r.1 (read_exact (state_of l) number))));
+      did = ((gives_some x l).2 refl, shows (read_out_of r.0, refl, (reads_as x l refl r.1, subst (Exact (state_of l) number) r.1 (read_exact (state_of l) number))));
     }
 host_does (finds head number n) l =
     let x = opening_call (gap_given head number) n in
     let r = returned x (state_of l) in
-    record { answer = opening r.0; after = left x l; did = ((gives_some x l).2 refl, shows (r.0, refl, reads_as x l refl r.1)) }
+    record { answer = opening (opening_of r.0); after = left x l; did = ((gives_some x l).2 refl, shows (opening_of r.0, refl, reads_as x l refl r.1)) }
 host_does (lists buffer) l =
     let x = text_call buffer in
     let r = returned x (state_of l) in
     record {
-      answer = listed r.0 (call_answer x (state_of l)).bytes;
+      answer = listed (listed_of r.0) (call_answer x (state_of l)).bytes;
       after = left x l;
-      did = ((gives_some x l).2 refl, shows_writing (r.0, refl, reads_as x l refl r.1));
+      did = ((gives_some x l).2 refl, shows_writing (listed_of r.0, refl, reads_as x l refl r.1));
     }
 host_does (hands buffer) l =
     let x = handover_call buffer in
     let r = returned x (state_of l) in
     record {
-      answer = listed r.0 (call_answer x (state_of l)).bytes;
+      answer = listed (listed_of r.0) (call_answer x (state_of l)).bytes;
       after = left x l;
-      did = ((gives_some x l).2 refl, shows_writing (r.0, refl, reads_as x l refl r.1));
+      did = ((gives_some x l).2 refl, shows_writing (listed_of r.0, refl, reads_as x l refl r.1));
     }
 host_does (steps input at buffer) l =
     let a = every_step l (drop at input) at buffer in

@@ -10,21 +10,22 @@ use denote.Ref.{MutBor, at_last}
 use lib.Dec.{eqb}
 use lib.ListN.{drop}
 use Rattle.lane.specs.declared.Carrier.{Carrier}
-use Rattle.lane.specs.declared.Cycled.{Cycled}
-use Rattle.lane.specs.declared.Entered.{Entered}
-use Rattle.lane.specs.declared.Listed.{Listed}
 use Rattle.lane.specs.declared.Newcomer.{Newcomer}
-use Rattle.lane.specs.declared.Opening.{Opening}
-use Rattle.lane.specs.declared.ReadOut.{ReadOut}
 use Rattle.lane.specs.declared.Road.{Road}
 use Rattle.lane.specs.State.{State}
 use Rattle.lane.specs.Layout.{Words, state_of}
-use Rattle.lane.specs.Call.{Call, start_call, load_call, enter_call, leave_call, surface_call, cycle_call, read_call, opening_call, text_call, handover_call, Answer, bare, call_answer, entered, cycled, read_out, opening, listed}
+use Rattle.lane.specs.Call.{Call, start_call, load_call, enter_call, leave_call, surface_call, cycle_call, read_call, opening_call, text_call, handover_call, Answer, bare, call_answer}
 use Rattle.lane.specs.Given.{wishes_no, wishes_given}
 use Rattle.console.specs.declared.Stepped.{Stepped}
 use Rattle.console.specs.Blocks.{Parsed, parsed, malformed}
 use Rattle.console.specs.History.{block_run, calls_with}
 use Rattle.history.specs.History.{Event, shared, exclusive, OfLane, OfBoth}
+use Rattle.host.specs.declared.answers.Cycled.{Cycled}
+use Rattle.host.specs.declared.answers.Entered.{Entered}
+use Rattle.host.specs.declared.answers.Listed.{Listed}
+use Rattle.host.specs.declared.answers.Opening.{Opening}
+use Rattle.host.specs.declared.answers.ReadOut.{ReadOut}
+use Rattle.host.specs.Answers.{entered, cycled, read_out, opening, listed}
 use Rattle.host.specs.Gaps.{gap_given}
 use Rattle.host.proofs.rondavitse_empty.Reads as empty-reads
 use Rattle.host.proofs.rondavitse_start.Reads as start-reads

@@ -8,7 +8,7 @@ use lib.Dec.{eqb}
 use lib.ListN.{drop}
 use Rattle.lane.specs.Limits.{last_cycle}
 use Rattle.lane.specs.Layout.{Words, state_of, empty_words}
-use Rattle.lane.specs.Call.{Call, load_call, cycle_call, text_call, handover_call, Answer, cycled, Gives}
+use Rattle.lane.specs.Call.{Call, load_call, cycle_call, text_call, handover_call, Answer, Gives}
 use Rattle.lane.specs.Given.{wishes_no, wishes_given, GivesWith}
 use Rattle.lane.specs.Handover.{TakesOver}
 use Rattle.lane.proofs.Laws.{wishes_enough}
@@ -28,6 +28,7 @@ use Rattle.history.proofs.Readings.{readings}
 use Rattle.console.specs.Blocks.{Parsed, parsed, malformed}
 use Rattle.console.specs.History.{block_run, events_of, calls_with}
 use Rattle.console.proofs.Calls.{step_chain}
+use Rattle.host.specs.Answers.{cycled}
 use Rattle.host.proofs.Calls.{HostCall, starts, loads, enters, leaves, surfaces, cycles, reads, finds, lists, hands, steps, calls_made, events_made, step_answer, HostDid, HostRan, nothing_yet, call, all_made, Emptied, TookOver}
 
 -- a cycle by its wishes: one whose wishes cannot be made is no call

@@ -5,15 +5,19 @@ ghost use Rattle.std.specs.Prelude.{◌≡◌, false, [], drop};
 ghost use Rattle.std.specs.Float.Ieee.Exact.{HasValue};
 ghost use Rattle.lane.specs.Layout.{state_of, with_code, empty_words};
 ghost use Rattle.lane.specs.Calls.{named_carrier};
-ghost use Rattle.lane.specs.Call.{load_call, start_call, enter_call, leave_call, surface_call, read_call, opening_call, text_call, handover_call, bare, entered, cycled, read_out, opening, listed, Gives};
+ghost use Rattle.lane.specs.Call.{load_call, start_call, enter_call, leave_call, surface_call, read_call, opening_call, text_call, handover_call, bare, Gives};
 ghost use Rattle.lane.specs.Given.{GivesWith};
 ghost use Rattle.lane.specs.Handover.{TakesOver};
 ghost use Rattle.console.specs.Program.{step_into, StepGives};
-ghost use Rattle.host.specs.Gaps.{gap_given as gap_given_of};
+ghost use Rattle.host.specs.Answers.{entered, cycled, read_out, opening, listed};
+ghost use Rattle.host.specs.Gaps.{gap_given};
 ghost use Rattle.host.specs.Version.{version};
 
+mod answers;
+
+pub use answers::{Cycled, Entered, Listed, Opening, ReadOut};
 use console::Stepped;
-use lane::{Carrier, Cycled, Entered, Gap, Lane, Listed, Newcomer, Opening, ReadOut, Road};
+use lane::{Carrier, Gap, Lane, Newcomer, Road};
 
 // For a host to find, before its first call, that its header is that of the library.
 #[unsafe(no_mangle)]
@@ -35,28 +39,28 @@ pub extern "C" fn rondavitse_empty(l: &mut Lane)
 pub extern "C" fn rondavitse_load(l: &mut Lane, text: &[u8]) -> u32
     ensures { Gives (load_call text.now) l.old (bare result []) l.new }
 {
-    lane::load(l, text)
+    answers::number(lane::load(l, text))
 }
 
 #[unsafe(no_mangle)]
 pub extern "C" fn rondavitse_start(l: &mut Lane, road: Road, first: u64) -> u32
     ensures { Gives (start_call road first) l.old (bare result []) l.new }
 {
-    lane::start(l, road, first)
+    answers::number(lane::start(l, road, first))
 }
 
 #[unsafe(no_mangle)]
 pub extern "C" fn rondavitse_enter(l: &mut Lane, c: Carrier) -> Entered
     ensures { Gives (enter_call c) l.old (entered result) l.new }
 {
-    lane::enter(l, c)
+    Entered::from(lane::enter(l, c))
 }
 
 #[unsafe(no_mangle)]
 pub extern "C" fn rondavitse_leave(l: &mut Lane, number: u64) -> u32
     ensures { Gives (leave_call number) l.old (bare result []) l.new }
 {
-    lane::leave(l, number)
+    answers::number(lane::leave(l, number))
 }
 
 // Another surface code between cycles.
@@ -65,7 +69,7 @@ pub extern "C" fn rondavitse_surface(l: &mut Lane, surface: u64) -> u32
     ensures given { Gives (surface_call surface) l.old (bare result []) l.new }
     ensures words { result ≡ 0 → l.new ≡ with_code surface l.old }
 {
-    lane::surface(l, surface)
+    answers::number(lane::surface(l, surface))
 }
 
 #[unsafe(no_mangle)]
@@ -73,12 +77,12 @@ pub extern "C" fn rondavitse_read(l: &Lane, number: u64) -> ReadOut
     ensures given { Gives (read_call number) l.now (read_out result) l.now }
     ensures exact { result.no ≡ 0 → HasValue result.reading.position false (named_carrier (state_of l.now) number).position 2048 × HasValue result.reading.speed false (named_carrier (state_of l.now) number).speed 128 }
 {
-    lane::read(l, number)
+    ReadOut::from(lane::read(l, number))
 }
 
 // An exported function takes no enum: the gap is a flag for the head, and a number.
 fn gap_given(head: u64, number: u64) -> Gap
-    ensures { result ≡ gap_given_of head number }
+    ensures { result ≡ gap_given head number }
 {
     if head == 0 {
         Gap::Behind(number)
@@ -95,16 +99,16 @@ pub extern "C" fn rondavitse_find_opening(
     number: u64,
     newcomer: Newcomer,
 ) -> Opening
-    ensures { Gives (opening_call (gap_given_of head number) newcomer) l.now (opening result) l.now }
+    ensures { Gives (opening_call (gap_given head number) newcomer) l.now (opening result) l.now }
 {
-    lane::find_opening(l, gap_given(head, number), newcomer)
+    Opening::from(lane::find_opening(l, gap_given(head, number), newcomer))
 }
 
 #[unsafe(no_mangle)]
 pub extern "C" fn rondavitse_lane_text(l: &Lane, out: &mut [u8]) -> Listed
     ensures { Gives (text_call out.old) l.now (listed result out.new) l.now }
 {
-    lane::lane_text(l, out)
+    Listed::from(lane::lane_text(l, out))
 }
 
 // The whole lane as text, for another host to take over.
@@ -112,7 +116,7 @@ pub extern "C" fn rondavitse_lane_text(l: &Lane, out: &mut [u8]) -> Listed
 pub extern "C" fn rondavitse_handover(l: &Lane, out: &mut [u8]) -> Listed
     ensures { Gives (handover_call out.old) l.now (listed result out.new) l.now }
 {
-    lane::handover(l, out)
+    Listed::from(lane::handover(l, out))
 }
 
 // A lane from such a text, whatever was there; a refused text leaves the empty lane.
@@ -120,7 +124,7 @@ pub extern "C" fn rondavitse_handover(l: &Lane, out: &mut [u8]) -> Listed
 pub extern "C" fn rondavitse_take_over(l: &mut Lane, text: &[u8]) -> u32
     ensures { TakesOver text.now result l.new }
 {
-    lane::take_over(l, text)
+    answers::number(lane::take_over(l, text))
 }
 
 // The wishes come as two arrays, of sorts and of values; the first `count` of each are looked at.
@@ -133,7 +137,7 @@ pub extern "C" fn rondavitse_cycle(
 ) -> Cycled
     ensures { GivesWith l.old count sorts.now values.now (cycled result) l.new }
 {
-    lane::cycle_given(l, count, sorts, values)
+    Cycled::from(lane::cycle_given(l, count, sorts, values))
 }
 
 // One block of call texts, as the program runs it.

@@ -15,8 +15,7 @@ use Rattle.headway.specs.Stopping.{braking}
 use Rattle.headway.specs.Wishes.{rests_behind}
 use Rattle.wish.specs.Units.{units_of}
 use Rattle.wish.specs.Trimming.{trimmed_to}
-use Rattle.wish.specs.declared.Converted.{Converted}
-use Rattle.wish.specs.declared.Converted.TheVariants.{Units, Outside}
+use Rattle.std.specs.Prelude.{Option, Some, None}
 use Rattle.wish.specs.declared.Wish.{Wish}
 use Rattle.wish.specs.declared.Wish.TheVariants.{Hold}
 use Rattle.lane.specs.declared.Carrier.{Carrier}
@@ -57,7 +56,7 @@ wish_of ws i = get_or ws i Hold
 -- a wish within its range, in units and trimmed with the state's figures
 pub record Trimmed (s : State) (c : Carrier) (w : Wish) (t : ℤ) : Type 0 where
   pub units : ℤ
-  pub within : units_of w c.speed ≡ Units units
+  pub within : units_of w c.speed ≡ Some units
   pub trimmed : t ≡ trimmed_to units c.speed (row_in s.tables s.road).hardest (row_in s.tables s.road).most s.road.limit
 
 -- "bit i is set if the wish of place i was replaced"
@@ -88,9 +87,9 @@ pub record CycleRun (s : State) (ws : List Wish) (word : ℕ) (after : List Carr
 
 -- ---- its proof
 
-units_within_is : (u : Converted) → is_outside u ≡ false → u ≡ Units (units_in u)
-units_within_is (Units z) e = refl
-units_within_is Outside e = absurd (true≢false e)
+units_within_is : (u : Option ℤ) → is_outside u ≡ false → u ≡ Some (units_in u)
+units_within_is (Some z) e = refl
+units_within_is None e = absurd (true≢false e)
 
 units_length : (cs : List Carrier) (ws : List Wish) → length cs ≤ length ws → length (wished_units cs ws) ≡ length cs
 unfolding wished_units
@@ -100,7 +99,7 @@ units_length (c ∷ cs) (w ∷ ws) h = ap suc (units_length cs ws (omega arith))
 
 -- where no wish is outside its range, each has units
 units_at : (cs : List Carrier) (ws : List Wish) (i : ℕ) → any_outside cs ws ≡ false → i < length cs → length cs ≤ length ws
-    → units_of (get_or ws i Hold) (get_or cs i none).speed ≡ Units (get_or (wished_units cs ws) i (pos 0))
+    → units_of (get_or ws i Hold) (get_or cs i none).speed ≡ Some (get_or (wished_units cs ws) i (pos 0))
 unfolding wished_units any_outside
 units_at [] ws i e h k = absurd (omega arith)
 units_at (c ∷ cs) [] i e h k = absurd (omega arith)

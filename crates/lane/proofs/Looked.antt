@@ -7,10 +7,10 @@ use native.Mathlib.Nat.{zero-min, min-zero, suc-min-suc, min-eq_right, sub-add-m
 use native.Mathlib.Omega.{arith}
 use borrow.Author.Tests.{eq-eqb, ne_eqb, ltb-true, ltb-false}
 use lib.Dec.{ltb}
+use Rattle.std.specs.Prelude.{Some}
 use lib.ListN.{length, get_or, take, set, length-set}
 use lib.Seq.{take_all, get_or-set_same}
 use Rattle.lane.specs.declared.Carrier.{Carrier}
-use Rattle.lane.specs.declared.lookup.Found.TheVariants.{At}
 use Rattle.lane.specs.declared.lookup.Lookup.{Lookup}
 use Rattle.lane.specs.Safety.{any_of, first_place, numbered}
 use Rattle.lane.specs.Lookup.{lookup, RestsOn}
@@ -71,7 +71,7 @@ module _ (number : ℕ) (cs : List Carrier) where
   earlier_else : (p : ℕ) → p < length cs → p < place → Differs p namesake
   earlier_else p h k e =
       let there = put_first (numbered number) namesake (eq-eqb number number refl) cs p h (omega arith) in
-      let new = ap (λ (r : Lookup). r.found) (lookup_found number (set cs p namesake) (omega (arith, there, length-set cs p namesake))) ∙ ap At there in
+      let new = ap (λ (r : Lookup). r.found) (lookup_found number (set cs p namesake) (omega (arith, there, length-set cs p namesake))) ∙ ap Some there in
       omega (arith, k, (found_at number cs _ refl p (sym e ∙ new)).1)
 
   -- and another number at its own

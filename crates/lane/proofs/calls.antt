@@ -1,5 +1,6 @@
 -- What a call gives, and what it keeps.
 pub mod Answers
+pub mod Coded
 pub mod Writing
 pub mod Texts
 pub mod Read

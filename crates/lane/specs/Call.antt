@@ -1,17 +1,17 @@
 -- Any call of the lane: its number, what it answers, and the lane afterwards.
-use Rattle.std.specs.Prelude.{ℕ, ◌<◌, ◌≡◌, Bool, true, false, List, [], length}
+use Rattle.std.specs.Prelude.{ℕ, ◌<◌, ◌≡◌, Bool, true, false, List, [], length, Option, None, Some, Result}
+use Rattle.std.specs.Result.{result_unwrap_or}
 use Rattle.wish.specs.Reading.{reading_of}
 use Rattle.wish.specs.declared.Reading.{Reading}
 use Rattle.wish.specs.declared.Wish.{Wish}
 use Rattle.lane.specs.declared.Carrier.{Carrier}
 use Rattle.lane.specs.declared.Cycled.{Cycled}
-use Rattle.lane.specs.declared.Entered.{Entered}
 use Rattle.lane.specs.declared.Gap.{Gap}
-use Rattle.lane.specs.declared.Listed.{Listed}
 use Rattle.lane.specs.declared.Newcomer.{Newcomer}
 use Rattle.lane.specs.declared.Opening.{Opening}
-use Rattle.lane.specs.declared.ReadOut.{ReadOut}
 use Rattle.lane.specs.declared.Road.{Road}
+use Rattle.lane.specs.declared.refusal.Refusal.{Refusal}
+use Rattle.lane.specs.Refusals.{outcome_no}
 use Rattle.lane.specs.State.{State}
 use Rattle.lane.specs.Layout.{Words, state_of}
 use Rattle.lane.specs.Rules.{broken}
@@ -167,21 +167,28 @@ pub record Gives (x : Call) (before : Words) (a : Answer) (after : Words) : Type
   -- every word is as before
   pub refused : 0 < a.number → after ≡ before
 
--- the answers as the functions return them
-abbrev pub entered : Entered → Answer
-entered r = placed r.no r.place
+-- the answers as the functions return them: the number of an outcome with its value, or with zeros
+abbrev pub entered : Result ℕ Refusal → Answer
+entered r = placed (outcome_no r) (result_unwrap_or r 0)
 
-abbrev pub cycled : Cycled → Answer
-cycled r = run r.no r.word r.replaced r.gone
+abbrev pub cycled : Result Cycled Refusal → Answer
+cycled r =
+    let c = result_unwrap_or r (record { word = 0; replaced = 0; gone = 0 }) in
+    run (outcome_no r) c.word c.replaced c.gone
 
-abbrev pub read_out : ReadOut → Answer
-read_out r = shown r.no r.reading
+abbrev pub read_out : Result Reading Refusal → Answer
+read_out r = shown (outcome_no r) (result_unwrap_or r (reading_of 0 0))
 
-abbrev pub opening : Opening → Answer
-opening r = spanned r.no (record { exists = r.exists; lowest = r.lowest; highest = r.highest })
+-- no such position where there is no opening
+abbrev pub span_in : Option Opening → Span
+span_in None = nowhere
+span_in (Some o) = record { exists = true; lowest = o.lowest; highest = o.highest }
 
-abbrev pub listed : Listed → (bytes : List ℕ) → Answer
-listed r bytes = told r.no r.length bytes
+abbrev pub opening : Result (Option Opening) Refusal → Answer
+opening r = spanned (outcome_no r) (span_in (result_unwrap_or r None))
+
+abbrev pub listed : Result ℕ Refusal → (bytes : List ℕ) → Answer
+listed r bytes = told (outcome_no r) (result_unwrap_or r 0) bytes
 
 -- a state that breaks no rule of the document and counts its carriers
 pub record Kept (s : State) : Type 0 where

@@ -6,7 +6,7 @@ use Rattle.headway.specs.Stopping.{stopping_distance, safe_behind}
 use Rattle.wish.specs.Units.{units_of}
 use Rattle.wish.specs.Cases as Accelerations
 use Rattle.wish.specs.Cases.{acceleration_cases}
-use Rattle.wish.specs.declared.Converted.{Converted}
+use Rattle.std.specs.Prelude.{Option, ℤ}
 use Rattle.wish.specs.declared.Wish.TheVariants.{Units, Acceleration, Hold}
 use Rattle.lane.specs.declared.Carrier.{Carrier}
 use Rattle.lane.specs.State.{State}
@@ -19,7 +19,7 @@ pub data Value : Type 0 where
   safe : Bool → Value
   -- a cycle's word, and the carriers after it
   cycled : ℕ → List Carrier → Value
-  units : Converted → Value
+  units : Option ℤ → Value
 
 pub data Case : Type 0 where
   -- S(c, v)

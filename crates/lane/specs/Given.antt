@@ -1,38 +1,34 @@
 -- Wishes as a host hands them in, as two arrays of numbers: a sort for each, and a value. An exported function takes no enum.
-use Rattle.std.specs.Prelude.{ℕ, ◌-◌, ◌≡◌, Bool, true, false, ◌||◌, cond, List, [], ◌∷◌, eqb, ltb, pos, neg_ℤ, length, take}
+use Rattle.std.specs.Prelude.{ℕ, ◌-◌, ◌≡◌, Bool, false, ◌||◌, cond, List, [], ◌∷◌, Option, Some, None, is_none, unwrap_or, eqb, ltb, pos, neg_ℤ, length, take}
 use Rattle.std.specs.Float.{binary32}
 use Rattle.std.specs.Float.Ieee.{of_bits}
 use Rattle.wish.specs.declared.Wish.{Wish}
 use Rattle.wish.specs.declared.Wish.TheVariants.{Units, Acceleration, TargetSpeed, Hold}
-use Rattle.lane.specs.declared.given.Made.{Made}
-use Rattle.lane.specs.declared.given.Made.TheVariants.{Of, Unknown}
 use Rattle.lane.specs.Layout.{Words, state_of}
 use Rattle.lane.specs.Calls.{if_accepted, ready_no}
 use Rattle.lane.specs.Call.{cycle_call, Answer, bare, Gives}
 
 -- sort 0: units, the 16-bit number sign-extended to 32 bits
-unfoldable pub units_made : ℕ → Made
+unfoldable pub units_made : ℕ → Option Wish
 units_made value =
-    cond (ltb value 32768) (Of (Units (pos value)))
-    (cond (ltb value 4294934528) Unknown (Of (Units (neg_ℤ (pos (4294967296 - value))))))
+    cond (ltb value 32768) (Some (Units (pos value)))
+    (cond (ltb value 4294934528) None (Some (Units (neg_ℤ (pos (4294967296 - value))))))
 
 -- sorts 1 and 2: an acceleration or a target speed, the float's bits; sort 3: hold, whatever the value; no other sort exists
-unfoldable pub wish_made : (sort value : ℕ) → Made
+unfoldable pub wish_made : (sort value : ℕ) → Option Wish
 wish_made sort value =
     cond (eqb sort 0) (units_made value)
-    (cond (eqb sort 1) (Of (Acceleration (of_bits binary32 value)))
-    (cond (eqb sort 2) (Of (TargetSpeed (of_bits binary32 value)))
-    (cond (eqb sort 3) (Of Hold) Unknown)))
+    (cond (eqb sort 1) (Some (Acceleration (of_bits binary32 value)))
+    (cond (eqb sort 2) (Some (TargetSpeed (of_bits binary32 value)))
+    (cond (eqb sort 3) (Some Hold) None)))
 
 -- whether the numbers make no wish
-abbrev pub is_unknown : Made → Bool
-is_unknown (Of w) = false
-is_unknown Unknown = true
+abbrev pub is_unknown : Option Wish → Bool
+is_unknown = is_none
 
 -- the wish that they make
-abbrev pub made_wish : Made → Wish
-made_wish (Of w) = w
-made_wish Unknown = Hold
+abbrev pub made_wish : Option Wish → Wish
+made_wish m = unwrap_or m Hold
 
 -- the wishes of two arrays, one after another
 unfoldable pub wishes_made : (sorts values : List ℕ) → List Wish

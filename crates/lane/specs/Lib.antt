@@ -1,4 +1,5 @@
 pub mod Limits
+pub mod Refusals
 pub mod Surface
 pub mod State
 pub mod Layout

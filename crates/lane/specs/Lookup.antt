@@ -1,8 +1,7 @@
 -- Document 02, T-02, "Finding a carrier number."
-use Rattle.std.specs.Prelude.{ℕ, ◌+◌, ◌<◌, ◌≡◌, cond, List, length, take, set}
+use Rattle.std.specs.Prelude.{ℕ, ◌+◌, ◌<◌, ◌≡◌, cond, List, Some, None, length, take, set}
 use Rattle.lane.specs.declared.Carrier.{Carrier}
 use Rattle.lane.specs.declared.lookup.Lookup.{Lookup}
-use Rattle.lane.specs.declared.lookup.Found.TheVariants.{At, Absent}
 use Rattle.lane.specs.Safety.{any_of, first_place, numbered}
 
 -- "Looking up a number should end at the find or at the last carrier present"; "how many records it looked at: the place found plus one, else the
@@ -10,8 +9,8 @@ use Rattle.lane.specs.Safety.{any_of, first_place, numbered}
 unfoldable pub lookup : (number : ℕ) → List Carrier → Lookup
 lookup number cs =
     cond (any_of (numbered number) cs)
-    (record { found = At (first_place (numbered number) cs); looked = first_place (numbered number) cs + 1 })
-    (record { found = Absent; looked = length cs })
+    (record { found = Some (first_place (numbered number) cs); looked = first_place (numbered number) cs + 1 })
+    (record { found = None; looked = length cs })
 
 -- an answer rests on the first so many records: each of them, changed by itself, may change what is found, and all others together change nothing
 pub record RestsOn (number : ℕ) (cs : List Carrier) (looked : ℕ) : Type 0 where

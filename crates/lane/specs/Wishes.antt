@@ -7,8 +7,7 @@ use Rattle.headway.specs.Wishes.{rests_behind}
 use Rattle.wish.specs.Units.{units_of}
 use Rattle.wish.specs.Trimming.{trimmed_to}
 use Rattle.wish.specs.declared.Wish.{Wish}
-use Rattle.wish.specs.declared.Converted.{Converted}
-use Rattle.wish.specs.declared.Converted.TheVariants.{Units, Outside}
+use Rattle.std.specs.Prelude.{Option, Some, None}
 use Rattle.lane.specs.declared.Carrier.{Carrier}
 use Rattle.lane.specs.declared.Drive.{Drive}
 use Rattle.lane.specs.declared.Road.{Road}
@@ -17,14 +16,14 @@ use Rattle.lane.specs.Safety.{Ahead, nobody, leader, guaranteed_rate, reach_to}
 use Rattle.lane.specs.Rules.{past_end}
 
 -- "7 a float outside its range"
-abbrev pub is_outside : Converted → Bool
-is_outside (Units z) = false
-is_outside Outside = true
+abbrev pub is_outside : Option ℤ → Bool
+is_outside (Some z) = false
+is_outside None = true
 
 -- a wish outside its range, whose call is refused, counts as 0 units
-abbrev pub units_in : Converted → ℤ
-units_in (Units z) = z
-units_in Outside = pos 0
+abbrev pub units_in : Option ℤ → ℤ
+units_in (Some z) = z
+units_in None = pos 0
 
 -- the units of each carrier's wish, front to back
 unfoldable pub wished_units : List Carrier → List Wish → List ℤ

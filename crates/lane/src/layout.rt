@@ -14,27 +14,25 @@ pub(crate) const NEXT: usize = 9;
 // The row of the first record.
 const FIRST: usize = 25;
 
-// The empty lane: the house rows in both tables, code after code, and zeros.
+// The house rows, code after code: the three numbers of each, and free words.
+const HOUSE: [[u64; ROW_WORDS]; SURFACES] = [
+    [64, 128, 32, 0, 0, 0, 0, 0],
+    [56, 120, 32, 0, 0, 0, 0, 0],
+    [48, 112, 24, 0, 0, 0, 0, 0],
+    [40, 96, 24, 0, 0, 0, 0, 0],
+    [32, 96, 16, 0, 0, 0, 0, 0],
+    [16, 64, 12, 0, 0, 0, 0, 0],
+    [6, 48, 8, 0, 0, 0, 0, 0],
+    [1, 255, 1, 0, 0, 0, 0, 0],
+];
+
+// The empty lane: the house rows in both tables, and zeros.
 pub(crate) fn clear(l: &mut Lane)
     ensures { l.new ≡ empty_words }
 {
     *l = [[0; ROW_WORDS]; ROWS];
-    l[1] = [64, 128, 32, 0, 0, 0, 0, 0];
-    l[2] = [56, 120, 32, 0, 0, 0, 0, 0];
-    l[3] = [48, 112, 24, 0, 0, 0, 0, 0];
-    l[4] = [40, 96, 24, 0, 0, 0, 0, 0];
-    l[5] = [32, 96, 16, 0, 0, 0, 0, 0];
-    l[6] = [16, 64, 12, 0, 0, 0, 0, 0];
-    l[7] = [6, 48, 8, 0, 0, 0, 0, 0];
-    l[8] = [1, 255, 1, 0, 0, 0, 0, 0];
-    l[9] = l[1];
-    l[10] = l[2];
-    l[11] = l[3];
-    l[12] = l[4];
-    l[13] = l[5];
-    l[14] = l[6];
-    l[15] = l[7];
-    l[16] = l[8];
+    l[IN_FORCE..NEXT].copy_from_slice(&HOUSE);
+    l[NEXT..NEXT + SURFACES].copy_from_slice(&HOUSE);
 }
 
 // What the first row holds.
@@ -46,21 +44,11 @@ pub(crate) struct Figures {
     pub(crate) count: usize,
 }
 
-// The length of an array behind a reference is known where it is lent as a slice. No code is left of it.
-fn as_rows(s: &[[u64; 8]]) {}
-
-// There are 64 records, and a first row.
-pub(crate) fn sized(l: &Lane)
-    ensures { (length l.now ≡ 89) × (length (records_in l.now) ≡ 64) }
-{
-    as_rows(l);
-}
-
+#[tactic(auto, using(crate::proofs::checks::Records::records_long))]
 pub(crate) fn figures_of(l: &Lane) -> Figures
     ensures value { result ≡ figures_in l.now }
     ensures l_len { length (records_in l.now) ≡ 64 }
 {
-    sized(l);
     Figures {
         started: l[0][0] == 1,
         road: Road {
@@ -79,7 +67,6 @@ pub(crate) fn put_figures(l: &mut Lane, f: Figures)
     ensures l_unchanged { tables_in l.new ≡ tables_in l.old }
     ensures l_unchanged_2 { records_in l.new ≡ records_in l.old }
 {
-    sized(l);
     let started = if f.started { 1 } else { 0 };
     let road = f.road;
     let row = l[0];
@@ -101,7 +88,6 @@ pub(crate) fn put_count(l: &mut Lane, cycle: u64, count: usize)
     ensures l_unchanged { tables_in l.new ≡ tables_in l.old }
     ensures l_unchanged_2 { records_in l.new ≡ records_in l.old }
 {
-    sized(l);
     let row = l[0];
     l[0] = [
         row[0],
@@ -150,27 +136,20 @@ pub(crate) fn put_next(l: &mut Lane, table: Table)
     ensures l_after { tables_in l.new ≡ record { in_force = (tables_in l.old).in_force; next = map surface_in table } }
     ensures l_unchanged_2 { records_in l.new ≡ records_in l.old }
 {
-    sized(l);
-    let mut code: usize = 0;
-    while code < SURFACES {
-        let surface = table[code];
-        put_surface(l, NEXT + code, surface);
-        code += 1;
+    for code in 0..SURFACES {
+        put_surface(l, NEXT + code, table[code]);
     }
 }
 
-// The rows for the next start put in force.
+// The rows for the next start put in force, row by row: a loop for both would have to copy the table first.
 pub(crate) fn put_in_force(l: &mut Lane)
     ensures l_unchanged { figures_in l.new ≡ figures_in l.old }
     ensures l_after { tables_in l.new ≡ record { in_force = (tables_in l.old).next; next = (tables_in l.old).next } }
     ensures l_unchanged_2 { records_in l.new ≡ records_in l.old }
 {
-    sized(l);
-    let mut code: usize = 0;
-    while code < SURFACES {
+    for code in 0..SURFACES {
         let surface = surface_at(l, NEXT, code);
         put_surface(l, IN_FORCE + code, surface);
-        code += 1;
     }
 }
 

@@ -1,10 +1,11 @@
 // The lane's calls: load, start, enter, leave, surface, cycle, read, find an opening, lane text, handover; `take_over`, by which a lane begins from a
-// text; and `find`, by which they look a carrier number up. A lane is lent and changed in place. `no` is 0 where a call is accepted, else the number of
-// its refusal, with every value zero and every word of the lane as it was, but for a refused `take_over`, which leaves the empty lane.
+// text; and `find`, by which they look a carrier number up. A lane is lent and changed in place. A refused call leaves
+// every word of the lane as it was, but for a refused `take_over`, which leaves the empty lane.
 #![tactic(auto)]
 
-ghost use Rattle.std.specs.Prelude.{◌≡◌, false, []};
+ghost use Rattle.std.specs.Prelude.{◌≡◌, false, [], IfOk};
 ghost use Rattle.std.specs.Float.Ieee.Exact.{HasValue};
+ghost use Rattle.lane.specs.Refusals.{outcome_no};
 ghost use Rattle.lane.specs.Layout.{state_of, with_code, empty_words};
 ghost use Rattle.lane.specs.Calls.{named_carrier};
 ghost use Rattle.lane.specs.Call.{load_call, start_call, enter_call, leave_call, surface_call, cycle_call, read_call, opening_call, text_call, handover_call, bare, entered, cycled, read_out, opening, listed, Gives};
@@ -18,13 +19,15 @@ mod lookup;
 mod motion;
 mod openings;
 mod places;
+mod refusal;
 mod rows;
 mod rules;
 mod table;
 mod transfer;
 mod weather;
 
-pub use lookup::{Found, Lookup, find};
+pub use lookup::{Lookup, find};
+pub use refusal::Refusal;
 use wish::{Reading, Wish};
 
 // Document 01's limits.
@@ -133,42 +136,17 @@ pub struct Drive {
     pub acceleration: i64,
 }
 
-#[repr(C)]
-#[derive(Clone, Copy)]
-pub struct Entered {
-    pub no: u32,
-    pub place: usize,
-}
-
-#[repr(C)]
+// What a cycle did: the word of the wishes replaced, how many they are, and how many carriers are gone.
 #[derive(Clone, Copy)]
 pub struct Cycled {
-    pub no: u32,
     pub word: u64,
     pub replaced: u32,
     pub gone: u32,
 }
 
-#[repr(C)]
-#[derive(Clone, Copy)]
-pub struct Listed {
-    pub no: u32,
-    pub length: usize,
-}
-
-#[repr(C)]
-#[derive(Clone, Copy)]
-pub struct ReadOut {
-    pub no: u32,
-    pub reading: Reading,
-}
-
-// The lowest and the highest position of an opening; both 0 where none exists.
-#[repr(C)]
+// The lowest and the highest position at which a newcomer could enter.
 #[derive(Clone, Copy)]
 pub struct Opening {
-    pub no: u32,
-    pub exists: bool,
     pub lowest: u64,
     pub highest: u64,
 }
@@ -181,27 +159,18 @@ pub fn empty(l: &mut Lane)
 }
 
 // Surface rows as text, for the next start.
-pub fn load(l: &mut Lane, text: &[u8]) -> u32
-    ensures { Gives (load_call text.now) l.old (bare result []) l.new }
+pub fn load(l: &mut Lane, text: &[u8]) -> Result<(), Refusal>
+    ensures { Gives (load_call text.now) l.old (bare (outcome_no result) []) l.new }
 {
-    let mut table = [[0u64; 3]; SURFACES];
-    let lines = table::read(text, 0, &mut table);
-    let bad = !lines.ok | (lines.next < text.len()) | rows::unsound(table);
-    let no = rules::load_refusal(l, bad);
-    if no != 0 {
-        return no;
-    }
+    let table = rules::check_load(l, table::loaded(text))?;
     layout::put_next(l, table);
-    0
+    Ok(())
 }
 
-pub fn start(l: &mut Lane, road: Road, first: u64) -> u32
-    ensures { Gives (start_call road first) l.old (bare result []) l.new }
+pub fn start(l: &mut Lane, road: Road, first: u64) -> Result<(), Refusal>
+    ensures { Gives (start_call road first) l.old (bare (outcome_no result) []) l.new }
 {
-    let no = rules::start_refusal(l, road);
-    if no != 0 {
-        return no;
-    }
+    rules::check_start(l, road)?;
     layout::put_in_force(l);
     layout::put_figures(
         l,
@@ -212,152 +181,109 @@ pub fn start(l: &mut Lane, road: Road, first: u64) -> u32
             count: 0,
         },
     );
-    0
+    Ok(())
 }
 
-pub fn enter(l: &mut Lane, c: Carrier) -> Entered
+// The place that the newcomer takes.
+pub fn enter(l: &mut Lane, c: Carrier) -> Result<usize, Refusal>
     ensures { Gives (enter_call c) l.old (entered result) l.new }
 {
-    let k = rules::check_enter(l, c);
-    if k.no != 0 {
-        return Entered { no: k.no, place: 0 };
-    }
-    places::insert(l, k.place, c);
-    Entered {
-        no: 0,
-        place: k.place,
-    }
+    let place = rules::check_enter(l, c)?;
+    places::insert(l, place, c);
+    Ok(place)
 }
 
-pub fn leave(l: &mut Lane, number: u64) -> u32
-    ensures { Gives (leave_call number) l.old (bare result []) l.new }
+pub fn leave(l: &mut Lane, number: u64) -> Result<(), Refusal>
+    ensures { Gives (leave_call number) l.old (bare (outcome_no result) []) l.new }
 {
-    let k = rules::check_named(l, number);
-    if k.no != 0 {
-        return k.no;
-    }
-    places::remove(l, k.place);
-    0
+    let place = rules::check_named(l, number)?;
+    places::remove(l, place);
+    Ok(())
 }
 
 // Another surface code between cycles.
-pub fn surface(l: &mut Lane, code: u64) -> u32
-    ensures given { Gives (surface_call code) l.old (bare result []) l.new }
-    ensures words { result ≡ 0 → l.new ≡ with_code code l.old }
+pub fn surface(l: &mut Lane, code: u64) -> Result<(), Refusal>
+    ensures given { Gives (surface_call code) l.old (bare (outcome_no result) []) l.new }
+    ensures words { outcome_no result ≡ 0 → l.new ≡ with_code code l.old }
 {
-    let no = weather::surface_refusal(l, code);
-    if no != 0 {
-        return no;
-    }
+    weather::check_surface(l, code)?;
     layout::put_code(l, code);
-    0
+    Ok(())
 }
 
 // Position and speed of a carrier as doubles.
-pub fn read(l: &Lane, number: u64) -> ReadOut
+pub fn read(l: &Lane, number: u64) -> Result<Reading, Refusal>
     ensures given { Gives (read_call number) l.now (read_out result) l.now }
-    ensures exact { result.no ≡ 0 → HasValue result.reading.position false (named_carrier (state_of l.now) number).position 2048 × HasValue result.reading.speed false (named_carrier (state_of l.now) number).speed 128 }
+    ensures exact { IfOk result (λ reading. HasValue reading.position false (named_carrier (state_of l.now) number).position 2048 × HasValue reading.speed false (named_carrier (state_of l.now) number).speed 128) }
 {
-    let k = rules::check_named(l, number);
-    if k.no != 0 {
-        return ReadOut {
-            no: k.no,
-            reading: wish::reading_of(0, 0),
-        };
-    }
-    let c = layout::carrier_at(l, k.place);
-    ReadOut {
-        no: 0,
-        reading: wish::reading_of(rules::narrow(c.position), rules::narrow(c.speed)),
-    }
+    let place = rules::check_named(l, number)?;
+    let c = layout::carrier_at(l, place);
+    Ok(wish::reading_of(rules::narrow(c.position), rules::narrow(c.speed)))
 }
 
-// Where in a gap a newcomer could enter.
-pub fn find_opening(l: &Lane, gap: Gap, newcomer: Newcomer) -> Opening
+// Where in a gap a newcomer could enter, if anywhere.
+pub fn find_opening(l: &Lane, gap: Gap, newcomer: Newcomer) -> Result<Option<Opening>, Refusal>
     ensures { Gives (opening_call gap newcomer) l.now (opening result) l.now }
 {
-    let asked = openings::check_opening(l, gap, newcomer);
-    let place = asked.place;
-    if asked.no != 0 {
-        return Opening {
-            no: asked.no,
-            exists: false,
-            lowest: 0,
-            highest: 0,
-        };
-    }
-    openings::opening_at(l, place, newcomer)
+    let place = openings::check_opening(l, gap, newcomer)?;
+    Ok(openings::opening_at(l, place, newcomer))
 }
 
 // The lane text into a lent buffer, and its length.
-pub fn lane_text(l: &Lane, out: &mut [u8]) -> Listed
+pub fn lane_text(l: &Lane, out: &mut [u8]) -> Result<usize, Refusal>
     ensures { Gives (text_call out.old) l.now (listed result out.new) l.now }
 {
-    if rules::breaks_rule(l) {
-        return Listed { no: 21, length: 0 };
-    }
+    rules::check_sound(l)?;
     if listing::longer_than(l, out.len()) {
-        return Listed { no: 9, length: 0 };
+        return Err(Refusal::TextBufferTooShort);
     }
-    let length = listing::put_text(l, out, 0);
-    Listed { no: 0, length }
+    Ok(listing::put_text(l, out, 0))
 }
 
 // The whole lane as text into a lent buffer, and its length.
-pub fn handover(l: &Lane, out: &mut [u8]) -> Listed
+pub fn handover(l: &Lane, out: &mut [u8]) -> Result<usize, Refusal>
     ensures { Gives (handover_call out.old) l.now (listed result out.new) l.now }
 {
-    if rules::breaks_rule(l) {
-        return Listed { no: 21, length: 0 };
-    }
+    rules::check_sound(l)?;
     if out.len() < transfer::text_length(l) {
-        return Listed { no: 9, length: 0 };
+        return Err(Refusal::TextBufferTooShort);
     }
-    let length = transfer::put_text(l, out);
-    Listed { no: 0, length }
+    Ok(transfer::put_text(l, out))
 }
 
 // A lane from the text of a handover, whatever the lent one holds; a refused text leaves the empty lane.
-pub fn take_over(l: &mut Lane, text: &[u8]) -> u32
-    ensures { TakesOver text.now result l.new }
+pub fn take_over(l: &mut Lane, text: &[u8]) -> Result<(), Refusal>
+    ensures { TakesOver text.now (outcome_no result) l.new }
 {
-    let mut no: u32 = 36;
-    if transfer::read(l, text) {
-        no = rules::lane_refusal(l);
-    }
-    if no != 0 {
+    let taken = match transfer::read(l, text) {
+        Some(()) => rules::check_lane(l),
+        None => Err(Refusal::HandoverMalformed),
+    };
+    if taken.is_err() {
         layout::clear(l);
     }
-    no
+    taken
 }
 
 // One cycle. The first `count` wishes are looked at.
-pub fn cycle(l: &mut Lane, count: usize, wishes: [Wish; 64]) -> Cycled
+pub fn cycle(l: &mut Lane, count: usize, wishes: [Wish; 64]) -> Result<Cycled, Refusal>
     ensures { Gives (cycle_call count wishes) l.old (cycled result) l.new }
 {
-    let no = rules::check_ready(l, count);
-    if no != 0 {
-        return motion::refused(no);
-    }
-    let mut units = [0i32; 64];
-    if motion::convert(l, count, wishes, &mut units) {
-        return motion::refused(7);
-    }
-    motion::run(l, count, &units)
+    rules::check_ready(l, count)?;
+    let units = motion::convert(l, count, wishes)?;
+    Ok(motion::run(l, count, &units))
 }
 
 // One cycle, with wishes as two arrays, of sorts and of values, of which the first `count` are looked at.
-pub fn cycle_given(l: &mut Lane, count: usize, sorts: &[u8], values: &[u32]) -> Cycled
+pub fn cycle_given(
+    l: &mut Lane,
+    count: usize,
+    sorts: &[u8],
+    values: &[u32],
+) -> Result<Cycled, Refusal>
     ensures { GivesWith l.old count sorts.now values.now (cycled result) l.new }
 {
-    let no = rules::check_ready(l, count);
-    if no != 0 {
-        return motion::refused(no);
-    }
-    let mut units = [0i32; 64];
-    let unfit = given::convert(l, count, sorts, values, &mut units);
-    if unfit != 0 {
-        return motion::refused(unfit);
-    }
-    motion::run(l, count, &units)
+    rules::check_ready(l, count)?;
+    let units = given::convert(l, count, sorts, values)?;
+    Ok(motion::run(l, count, &units))
 }

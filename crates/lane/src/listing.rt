@@ -1,19 +1,19 @@
 // The lane text, put and read: the number of carriers, and then number, position, speed, length and own rate of each, front to back.
-ghost use Rattle.std.specs.Prelude.{◌≡◌, false, cond, ◌+◌, ◌≤◌, ltb, length, take, drop};
+ghost use Rattle.std.specs.Prelude.{◌≡◌, false, MatchOption, ◌+◌, ◌≤◌, ltb, length, take};
 ghost use Rattle.text.specs.Groups.{Got, got, missing, group_in};
 ghost use Rattle.text.specs.Lines.{written};
 ghost use Rattle.lane.specs.Layout.{tables_in, figures_in, records_in, state_of};
 ghost use Rattle.lane.specs.Rules.{broken};
 ghost use Rattle.lane.specs.Listing.{carrier_keys, carrier_numbers, carrier_text, lane_text, carriers_in};
 
-use crate::table::Lines;
 use crate::{AT, BRAKE, CAR, Carrier, HIGHEST_NUMBER, LENGTH, LONGEST_TEXT, Lane, SPEED, layout};
+use text::Lines;
 
 // The line of the number of carriers.
 pub(crate) const CARS: [u8; 5] = *b"cars=";
 
 // The most that 32 bits hold.
-pub(crate) const BITS_32: u64 = 0xFFFF_FFFF;
+pub(crate) const BITS_32: u64 = u32::MAX as u64;
 
 // How long a carrier's lines are.
 fn carrier_length(c: Carrier) -> usize
@@ -33,10 +33,8 @@ pub(crate) fn text_length(l: &Lane) -> usize
 {
     let f = layout::figures_of(l);
     let mut n: usize = 6 + text::decimal_length(f.count as u64);
-    let mut i: usize = 0;
-    while i < f.count {
+    for i in 0..f.count {
         n += carrier_length(layout::carrier_at(l, i));
-        i += 1;
     }
     n
 }
@@ -72,68 +70,40 @@ pub(crate) fn put_text(l: &Lane, out: &mut [u8], at: usize) -> usize
 {
     let f = layout::figures_of(l);
     let mut place = text::put_decimal_line(out, at, &CARS, f.count as u64);
-    let mut i: usize = 0;
-    while i < f.count {
+    for i in 0..f.count {
         place = put_carrier(out, place, layout::carrier_at(l, i));
-        i += 1;
     }
     place
 }
 
-// Whether a carrier's lines are there, the carrier, and the place after them; where they are not, any place.
-#[derive(Clone, Copy)]
-pub(crate) struct CarrierRead {
-    pub(crate) ok: bool,
-    pub(crate) carrier: Carrier,
-    pub(crate) next: usize,
-}
-
-fn read_carrier(text: &[u8], at: usize) -> CarrierRead
-    ensures { group_in carrier_keys (drop at text.now) ≡ cond result.ok (got (carrier_numbers result.carrier) (drop result.next text.now)) missing }
+// A carrier, where its lines come next.
+fn read_carrier(lines: &mut Lines) -> Option<Carrier>
+    ensures { MatchOption result (group_in carrier_keys lines.old.rest.now ≡ missing) (λ c. group_in carrier_keys lines.old.rest.now ≡ got (carrier_numbers c) lines.new.rest.now) }
 {
-    let number = text::read_field(text, at, &CAR, HIGHEST_NUMBER);
-    let position = text::read_field(text, number.next, &AT, BITS_32);
-    let speed = text::read_field(text, position.next, &SPEED, BITS_32);
-    let length = text::read_field(text, speed.next, &LENGTH, BITS_32);
-    let rate = text::read_field(text, length.next, &BRAKE, BITS_32);
-    CarrierRead {
-        ok: number.ok & position.ok & speed.ok & length.ok & rate.ok,
-        carrier: Carrier {
-            number: number.value,
-            position: position.value,
-            speed: speed.value,
-            length: length.value,
-            rate: rate.value,
-        },
-        next: rate.next,
-    }
+    let number = lines.number(&CAR, HIGHEST_NUMBER)?;
+    let position = lines.number(&AT, BITS_32)?;
+    let speed = lines.number(&SPEED, BITS_32)?;
+    let length = lines.number(&LENGTH, BITS_32)?;
+    let rate = lines.number(&BRAKE, BITS_32)?;
+    Some(Carrier {
+        number,
+        position,
+        speed,
+        length,
+        rate,
+    })
 }
 
-// So many carriers from a place of the text on, put in the lane's first records.
-pub(crate) fn read_carriers(l: &mut Lane, text: &[u8], at: usize, count: usize) -> Lines
+// So many carriers, where their lines come next, put in the lane's first records; where a line is missing, those before it.
+pub(crate) fn read_carriers(l: &mut Lane, lines: &mut Lines, count: usize) -> Option<()>
     requires { count ≤ 64 }
     ensures l_unchanged { (figures_in l.new ≡ figures_in l.old) × (tables_in l.new ≡ tables_in l.old) }
-    ensures text_value { carriers_in count (drop at text.now) ≡ cond result.ok (got (take count (records_in l.new)) (drop result.next text.now)) missing }
+    ensures text_value { MatchOption result (carriers_in count lines.old.rest.now ≡ missing) (λ _. carriers_in count lines.old.rest.now ≡ got (take count (records_in l.new)) lines.new.rest.now) }
     ensures l_len { length (records_in l.new) ≡ 64 }
 {
-    layout::sized(l);
-    let mut place = at;
-    let mut i: usize = 0;
-    while i < count {
-        let lines = read_carrier(text, place);
-        if !lines.ok {
-            return Lines {
-                ok: false,
-                next: at,
-            };
-        }
-        let carrier = lines.carrier;
-        layout::put_carrier(l, i, carrier);
-        place = lines.next;
-        i += 1;
+    for place in 0..count {
+        let carrier = read_carrier(lines)?;
+        layout::put_carrier(l, place, carrier);
     }
-    Lines {
-        ok: true,
-        next: place,
-    }
+    Some(())
 }

@@ -7,16 +7,10 @@ ghost use Rattle.lane.specs.Lookup.{lookup, RestsOn};
 
 use crate::{Lane, MOST_CARRIERS, layout};
 
-#[derive(Clone, Copy)]
-pub enum Found {
-    At(usize),
-    Absent,
-}
-
 // Whether and where a number stands, and how many records were looked at for it.
 #[derive(Clone, Copy)]
 pub struct Lookup {
-    pub found: Found,
+    pub found: Option<usize>,
     pub looked: usize,
 }
 
@@ -25,22 +19,20 @@ fn present(l: &Lane) -> usize
     ensures { result ≡ length (state_of l.now).carriers }
 {
     let f = layout::figures_of(l);
-    if MOST_CARRIERS < f.count {
-        return MOST_CARRIERS;
-    }
-    f.count
+    f.count.min(MOST_CARRIERS)
 }
 
-// Whether the next record has the number. A record is counted where it is read, and none may be read that the definition does not count.
-fn look(l: &Lane, number: u64, looked: &mut usize) -> bool
-    requires { looked.old < (lookup number (state_of l.now).carriers).looked }
-    ensures value { result ≡ numbered number (get_or (state_of l.now).carriers looked.old none) }
-    ensures looked_after { looked.new ≡ looked.old + 1 }
-{
-    layout::sized(l);
-    let c = layout::carrier_at(l, *looked);
-    *looked += 1;
-    c.number == number
+impl Lookup {
+    // Whether the next record has the number. A record is counted where it is read, and none may be read that the definition does not count.
+    fn look(&mut self, l: &Lane, number: u64) -> bool
+        requires { self.old.looked < (lookup number (state_of l.now).carriers).looked }
+        ensures value { result ≡ numbered number (get_or (state_of l.now).carriers self.old.looked none) }
+        ensures self_after { self.new ≡ record { found = self.old.found; looked = self.old.looked + 1 } }
+    {
+        let c = layout::carrier_at(l, self.looked);
+        self.looked += 1;
+        c.number == number
+    }
 }
 
 // The first place with the number. The search ends there or at the last carrier present.
@@ -48,19 +40,15 @@ pub fn find(l: &Lane, number: u64) -> Lookup
     ensures found { result ≡ lookup number (state_of l.now).carriers }
     ensures rests { RestsOn number (state_of l.now).carriers result.looked }
 {
-    let count = present(l);
-    let mut looked: usize = 0;
-    while looked < count {
-        let place = looked;
-        if look(l, number, &mut looked) {
-            return Lookup {
-                found: Found::At(place),
-                looked,
-            };
+    let mut lookup = Lookup {
+        found: None,
+        looked: 0,
+    };
+    for place in 0..present(l) {
+        if lookup.look(l, number) {
+            lookup.found = Some(place);
+            break;
         }
     }
-    Lookup {
-        found: Found::Absent,
-        looked,
-    }
+    lookup
 }

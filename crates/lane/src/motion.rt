@@ -1,73 +1,40 @@
 // One cycle of all carriers: their wishes in units, what each drives, where that leads, and who is left.
-ghost use Rattle.std.specs.Prelude.{◌≡◌, false, cond, ◌+◌, ◌*◌, ◌^◌, ◌≤◌, ◌<◌, pos, ◌+ℤ◌, length, get_or, take, set};
+ghost use Rattle.std.specs.Prelude.{◌≡◌, false, IfOk, cond, ◌+◌, ◌*◌, ◌^◌, ◌≤◌, ◌<◌, pos, ◌+ℤ◌, length, get_or, take, set};
 ghost use Rattle.headway.specs.Motion.{speed_after};
 ghost use Rattle.wish.specs.Units.{units_of};
+ghost use Rattle.lane.specs.Refusals.{outcome_no};
 ghost use Rattle.lane.specs.Layout.{figures_in, tables_in, records_in, state_of};
 ghost use Rattle.lane.specs.Safety.{nobody, leader, guaranteed_rate};
 ghost use Rattle.lane.specs.Rules.{road_no, past_end, faulty};
-ghost use Rattle.lane.specs.Wishes.{is_outside as is_outside_of, units_in as units_in_of, wished_units, any_outside, stands, drive, drives, moved, all_moved, bit, replaced_in, word_of, count_of, remaining};
+ghost use Rattle.lane.specs.Wishes.{wished_units, any_outside, stands, drive, drives, moved, all_moved, bit, replaced_in, word_of, count_of, remaining};
 ghost use Rattle.lane.specs.Calls.{none, at_cycle, with_carriers, drives_with, left_after, ready_no};
 
-use crate::{Carrier, Cycled, Drive, Lane, Road, Row, layout, rows, rules};
-use wish::{Converted, Wish};
+use crate::{Carrier, Cycled, Drive, Lane, Refusal, Road, Row, layout, rows, rules};
+use wish::Wish;
 
-pub(crate) fn is_outside(c: Converted) -> bool
-    ensures { result ≡ is_outside_of c }
-{
-    match c {
-        Converted::Units(_) => false,
-        Converted::Outside => true,
-    }
-}
-
-pub(crate) fn units_in(c: Converted) -> i64
-    ensures { result ≡ units_in_of c }
-{
-    match c {
-        Converted::Units(z) => z,
-        Converted::Outside => 0,
-    }
-}
-
-// The length of an array behind a reference is known where it is lent as a slice. No code is left of it.
-fn as_slice(s: &[i32]) {}
-
-// There are 64 units.
-pub(crate) fn sized(units: &[i32; 64])
-    ensures { length units.now ≡ 64 }
-{
-    as_slice(units);
-}
-
-// The wish of the carrier at a place put in units; true where it is a float outside its range.
-pub(crate) fn convert_one(l: &Lane, place: usize, w: Wish, units: &mut [i32; 64]) -> bool
+// The units of the carrier at a place by its wish; none for a float outside its range.
+pub(crate) fn units_at(l: &Lane, place: usize, w: Wish) -> Option<i32>
     requires { (place < 64) × ((get_or (records_in l.now) place none).speed ≤ 8192) }
-    ensures value { result ≡ is_outside_of (units_of w (get_or (records_in l.now) place none).speed) }
-    ensures units_after { units.new ≡ set units.old place (units_in_of (units_of w (get_or (records_in l.now) place none).speed)) }
+    ensures { result ≡ units_of w (get_or (records_in l.now) place none).speed }
 {
     let c = layout::carrier_at(l, place);
-    let converted = wish::units(w, rules::narrow(c.speed));
-    units[place] = units_in(converted) as i32;
-    is_outside(converted)
+    wish::units(w, rules::narrow(c.speed)).map(|z| z as i32)
 }
 
-// The wishes of `count` carriers in units; true where one is a float outside its range.
-pub(crate) fn convert(l: &Lane, count: usize, wishes: [Wish; 64], units: &mut [i32; 64]) -> bool
+// The wishes of `count` carriers in units. Refused by 7 is a float outside its range.
+pub(crate) fn convert(l: &Lane, count: usize, wishes: [Wish; 64]) -> Result<[i32; 64], Refusal>
     requires { ready_no (state_of l.now) count ≡ 0 }
-    ensures value { result ≡ any_outside (take count (records_in l.now)) (take count wishes) }
-    ensures units_after { result ≡ false → take count units.new ≡ wished_units (take count (records_in l.now)) (take count wishes) }
+    ensures number { outcome_no result ≡ cond (any_outside (take count (records_in l.now)) (take count wishes)) 7 0 }
+    ensures units { IfOk result (λ units. take count units ≡ wished_units (take count (records_in l.now)) (take count wishes)) }
 {
-    layout::sized(l);
-    sized(units);
-    let mut i: usize = 0;
-    while i < count {
-        let w = wishes[i];
-        if convert_one(l, i, w, units) {
-            return true;
-        }
-        i += 1;
+    let mut units = [0i32; 64];
+    for i in 0..count {
+        let Some(z) = units_at(l, i, wishes[i]) else {
+            return Err(Refusal::FloatOutOfRange);
+        };
+        units[i] = z;
     }
-    false
+    Ok(units)
 }
 
 // The speed to which an acceleration leads.
@@ -88,20 +55,10 @@ fn wish_stands(row: Row, foremost: bool, ahead: Carrier, c: Carrier, w: i64) -> 
     if foremost {
         return true;
     }
-    let rate = rules::guaranteed_rate(row, c);
-    let v = rules::narrow(c.speed);
-    if w <= headway::braking(rate, v) {
+    if w <= headway::braking(rules::guaranteed_rate(row, c), rules::narrow(c.speed)) {
         return true;
     }
-    headway::rests_behind(
-        rate,
-        row.hardest,
-        rules::reach_to(ahead, c),
-        v,
-        w,
-        rules::narrow(ahead.position),
-        rules::narrow(ahead.speed),
-    )
+    rules::reach(ahead, c).rests_behind(w, rules::front(ahead), rules::rates(row, c))
 }
 
 fn drive_one(row: Row, limit: u64, foremost: bool, ahead: Carrier, c: Carrier, units: i64) -> Drive
@@ -131,7 +88,7 @@ fn move_one(c: Carrier, acceleration: i64) -> Carrier
     let next = next_speed(c, acceleration);
     Carrier {
         number: c.number,
-        position: headway::reached(rules::narrow(c.position), rules::narrow(c.speed), next),
+        position: rules::front(c).reached(next),
         speed: next as u64,
         length: c.length,
         rate: c.rate,
@@ -175,38 +132,23 @@ fn drive_all(l: &mut Lane, road: Road, row: Row, count: usize, units: &[i32; 64]
     ensures l_after { take result.count (records_in l.new) ≡ remaining road (all_moved (take count (records_in l.old)) (drives row road.limit nobody (take count (records_in l.old)) (take count units.now))) }
     ensures count_le_count { (result.count ≤ count) × (((figures_in l.new ≡ figures_in l.old) × (tables_in l.new ≡ tables_in l.old)) × (length (records_in l.new) ≡ 64)) }
 {
-    sized(units);
     // Nobody is ahead of the foremost carrier, so that any record will do at first.
     let mut ahead = layout::no_carrier();
     let mut left: usize = 0;
     let mut word: u64 = 0;
-    let mut i: usize = 0;
-    while i < count {
+    for i in 0..count {
         let c = layout::carrier_at(l, i);
         let d = drive_one(row, road.limit, i == 0, ahead, c, units[i] as i64);
         word = marked(word, i, d.replaced);
         left = keep(l, road, left, move_one(c, d.acceleration));
         ahead = c;
-        i += 1;
     }
     Left { count: left, word }
-}
-
-pub(crate) fn refused(no: u32) -> Cycled
-    ensures { result ≡ record { no = no; word = 0; replaced = 0; gone = 0 } }
-{
-    Cycled {
-        no,
-        word: 0,
-        replaced: 0,
-        gone: 0,
-    }
 }
 
 // A cycle of a lane that is ready for it, with the wishes in units.
 pub(crate) fn run(l: &mut Lane, count: usize, units: &[i32; 64]) -> Cycled
     requires { ready_no (state_of l.old) count ≡ 0 }
-    ensures no_value { result.no ≡ 0 }
     ensures word_value { result.word ≡ word_of (replaced_in (drives_with (state_of l.old) (take count units.now))) }
     ensures replaced_value { result.replaced ≡ count_of (replaced_in (drives_with (state_of l.old) (take count units.now))) }
     ensures l_after { result.gone + (state_of l.new).count ≡ count }
@@ -218,7 +160,6 @@ pub(crate) fn run(l: &mut Lane, count: usize, units: &[i32; 64]) -> Cycled
     let left = drive_all(l, road, row, count, units);
     layout::put_count(l, f.cycle + 1, left.count);
     Cycled {
-        no: 0,
         word: left.word,
         replaced: u64::count_ones(left.word),
         gone: (count - left.count) as u32,

@@ -1,17 +1,19 @@
 // Where a newcomer could enter, reckoned from stopping distances.
 ghost use Rattle.std.specs.Prelude.{◌≡◌, Bool, false, not, ◌&&◌, ℕ, ◌-◌, ◌≤◌, ◌<◌, leb, ltb, length, get_or};
+ghost use Rattle.std.specs.Result.{result_unwrap_or};
 ghost use Rattle.headway.specs.Stopping.{stopping_distance};
 ghost use Rattle.lane.specs.Limits.{positions};
+ghost use Rattle.lane.specs.Refusals.{outcome_no};
 ghost use Rattle.lane.specs.Surface.{row_in};
 ghost use Rattle.lane.specs.Layout.{state_of};
 ghost use Rattle.lane.specs.Safety.{leader, safe_with};
 ghost use Rattle.lane.specs.Rules.{values_no, broken};
 ghost use Rattle.lane.specs.Calls.{none, if_accepted, ahead_of};
 ghost use Rattle.lane.specs.Opening.{newcomer_at, gap_place, opens, span_of, gap_named_no, opening_no};
-ghost use Rattle.lane.specs.Call.{spanned, opening};
+ghost use Rattle.lane.specs.Call.{span_in};
 
-use crate::rules::Checked;
-use crate::{Carrier, Gap, Lane, Newcomer, Opening, Row, layout, rows, rules};
+use crate::{Carrier, Gap, Lane, Newcomer, Opening, Refusal, Row, layout, rows, rules};
+use headway::Vehicle;
 
 // A newcomer at the lane's start, as the checks of an entry take it.
 fn at_start(n: Newcomer) -> Carrier
@@ -27,54 +29,29 @@ fn at_start(n: Newcomer) -> Carrier
 }
 
 // The checks of the gap that is asked for, 21, 4 and 24, and the place of who enters there.
-fn check_gap(l: &Lane, gap: Gap) -> Checked
-    ensures { (result.no ≡ gap_named_no (state_of l.now) gap) × (result.place ≡ if_accepted (gap_named_no (state_of l.now) gap) (gap_place gap (state_of l.now).carriers) 0) }
+fn check_gap(l: &Lane, gap: Gap) -> Result<usize, Refusal>
+    ensures { (outcome_no result ≡ gap_named_no (state_of l.now) gap) × (result_unwrap_or result 0 ≡ if_accepted (gap_named_no (state_of l.now) gap) (gap_place gap (state_of l.now).carriers) 0) }
 {
     match gap {
         Gap::Behind(number) => {
-            let named = rules::check_named(l, number);
-            if named.no != 0 {
-                return rules::refused(named.no);
-            }
-            Checked {
-                no: 0,
-                place: named.place + 1,
-            }
+            let place = rules::check_named(l, number)?;
+            Ok(place + 1)
         }
         Gap::AheadOfAll => {
-            if rules::breaks_rule(l) {
-                return rules::refused(21);
-            }
-            Checked { no: 0, place: 0 }
+            rules::check_sound(l)?;
+            Ok(0)
         }
     }
 }
 
 // The checks of an opening.
-pub(crate) fn check_opening(l: &Lane, gap: Gap, n: Newcomer) -> Checked
-    ensures { (result.no ≡ opening_no (state_of l.now) gap n) × (result.place ≡ if_accepted (opening_no (state_of l.now) gap n) (gap_place gap (state_of l.now).carriers) 0) }
+pub(crate) fn check_opening(l: &Lane, gap: Gap, n: Newcomer) -> Result<usize, Refusal>
+    ensures { (outcome_no result ≡ opening_no (state_of l.now) gap n) × (result_unwrap_or result 0 ≡ if_accepted (opening_no (state_of l.now) gap n) (gap_place gap (state_of l.now).carriers) 0) }
 {
-    let k = check_gap(l, gap);
-    if k.no != 0 {
-        return rules::refused(k.no);
-    }
+    let place = check_gap(l, gap)?;
     let f = layout::figures_of(l);
-    let road = f.road;
-    let no = rules::values_refusal(road, at_start(n));
-    if no != 0 {
-        return rules::refused(no);
-    }
-    Checked {
-        no: 0,
-        place: k.place,
-    }
-}
-
-// One number less another, or 0.
-fn less(x: u64, y: u64) -> u64
-    ensures { result ≡ x - y }
-{
-    if y < x { x - y } else { 0 }
+    rules::check_values(f.road, at_start(n))?;
+    Ok(place)
 }
 
 // The stopping distance: where a carrier at the lane's start comes to rest.
@@ -82,7 +59,11 @@ fn stopping(rate: u32, speed: u64) -> u64
     requires { (1 ≤ rate) × (speed < 4294967296) }
     ensures { result ≡ stopping_distance rate speed }
 {
-    headway::rest(rate, 0, rules::narrow(speed))
+    let from_start = Vehicle {
+        position: 0,
+        speed: rules::narrow(speed),
+    };
+    from_start.rest(rate)
 }
 
 // The position from which on a newcomer is no longer safe behind the carrier ahead.
@@ -91,8 +72,8 @@ fn below_leader(row: Row, ahead: Carrier, n: Newcomer) -> u64
     ensures { (p : ℕ) → safe_with row (leader ahead) (newcomer_at n p) ≡ ltb p result }
 {
     let rate = rules::guaranteed_rate(row, at_start(n));
-    let longer = less(stopping(rate, n.speed), stopping(row.hardest, ahead.speed));
-    less(ahead.position, ahead.length + longer)
+    let longer = stopping(rate, n.speed).saturating_sub(stopping(row.hardest, ahead.speed));
+    ahead.position.saturating_sub(ahead.length + longer)
 }
 
 // The lowest position of a newcomer at which the carrier behind is safe.
@@ -101,28 +82,21 @@ fn above_follower(row: Row, behind: Carrier, n: Newcomer) -> u64
     ensures { (p : ℕ) → safe_with row (leader (newcomer_at n p)) behind ≡ leb result p }
 {
     let rate = rules::guaranteed_rate(row, behind);
-    let longer = less(stopping(rate, behind.speed), stopping(row.hardest, n.speed));
+    let longer = stopping(rate, behind.speed).saturating_sub(stopping(row.hardest, n.speed));
     behind.position + n.length + longer + 1
 }
 
 // The positions from `lowest` on that are below `end`.
-fn span(lowest: u64, end: u64) -> Opening
-    ensures { (test : ℕ → Bool) → ((p : ℕ) → test p ≡ leb lowest p && ltb p «end») → «end» ≤ positions → opening result ≡ spanned 0 (span_of test) }
+fn span(lowest: u64, end: u64) -> Option<Opening>
+    ensures { (test : ℕ → Bool) → ((p : ℕ) → test p ≡ leb lowest p && ltb p «end») → «end» ≤ positions → span_in result ≡ span_of test }
 {
     if lowest < end {
-        return Opening {
-            no: 0,
-            exists: true,
+        return Some(Opening {
             lowest,
             highest: end - 1,
-        };
+        });
     }
-    Opening {
-        no: 0,
-        exists: false,
-        lowest: 0,
-        highest: 0,
-    }
+    None
 }
 
 // The lowest position in the gap at a place: the lane's start where nobody is behind.
@@ -151,9 +125,9 @@ fn end_at(l: &Lane, row: Row, end: u64, place: usize, n: Newcomer) -> u64
 }
 
 // The opening at a place, on a lane that breaks no rule.
-pub(crate) fn opening_at(l: &Lane, place: usize, n: Newcomer) -> Opening
+pub(crate) fn opening_at(l: &Lane, place: usize, n: Newcomer) -> Option<Opening>
     requires { (broken (state_of l.now) ≡ false) × ((place ≤ length (state_of l.now).carriers) × (values_no (state_of l.now).road (newcomer_at n 0) ≡ 0)) }
-    ensures { opening result ≡ spanned 0 (span_of (opens (state_of l.now) place n)) }
+    ensures { span_in result ≡ span_of (opens (state_of l.now) place n) }
 {
     let f = layout::figures_of(l);
     let road = f.road;

@@ -5,24 +5,22 @@ ghost use Rattle.lane.specs.Calls.{with_carriers, walk, insert_at, remove_at};
 
 use crate::{Carrier, Lane, layout};
 
-// The walk goes front to back and ends at the first carrier whose position is lower.
+// The walk goes front to back and ends at the first carrier whose position is lower. Document 01 names its form: a loop that yields the place by
+// `break`, which a `for` cannot.
 pub(crate) fn entry_place(l: &Lane, count: usize, position: u64) -> usize
     requires { count ≤ 64 }
     ensures { result ≡ walk position (take count (records_in l.now)) }
 {
-    layout::sized(l);
     let mut i: usize = 0;
-    let place = loop {
+    loop {
         if count <= i {
             break i;
         }
-        let c = layout::carrier_at(l, i);
-        if c.position < position {
+        if layout::carrier_at(l, i).position < position {
             break i;
         }
         i += 1;
-    };
-    place
+    }
 }
 
 // The carriers from `place` on moved one back, and the newcomer put in.
@@ -31,14 +29,11 @@ pub(crate) fn insert(l: &mut Lane, place: usize, c: Carrier)
     ensures { state_of l.new ≡ with_carriers (state_of l.old) (insert_at place c (state_of l.old).carriers) }
 {
     let f = layout::figures_of(l);
-    let count = f.count;
-    let mut i = count;
-    while place < i {
-        layout::copy_record(l, i - 1, i);
-        i -= 1;
+    for i in (place..f.count).rev() {
+        layout::copy_record(l, i, i + 1);
     }
     layout::put_carrier(l, place, c);
-    layout::put_count(l, f.cycle, count + 1);
+    layout::put_count(l, f.cycle, f.count + 1);
 }
 
 // The carriers past `place` moved one forward over it.
@@ -48,10 +43,8 @@ pub(crate) fn remove(l: &mut Lane, place: usize)
 {
     let f = layout::figures_of(l);
     let last = f.count - 1;
-    let mut i = place;
-    while i < last {
+    for i in place..last {
         layout::copy_record(l, i + 1, i);
-        i += 1;
     }
     layout::put_count(l, f.cycle, last);
 }

@@ -1,6 +1,6 @@
 // The surface rows: guaranteed braking, hardest braking, most acceleration.
 ghost use Rattle.std.specs.Prelude.{◌≡◌, false, map, ◌≤◌};
-ghost use Rattle.lane.specs.Surface.{row_in as row_in_of, sound_row, unsound as unsound_rows};
+ghost use Rattle.lane.specs.Surface.{row_in, sound_row, unsound};
 ghost use Rattle.lane.specs.Layout.{surface_in, table_from, tables_in};
 ghost use Rattle.lane.specs.Rules.{road_no};
 
@@ -16,40 +16,36 @@ fn sound(row: [u64; 3]) -> bool
         & (row[2] <= HIGHEST_RATE)
 }
 
-// A row of a table that was read is unsound.
+// A row of a table that was read is unsound. The lane's own tables have a loop of their own below: one for both would take each row through a
+// closure, or copy the lane's table first.
 pub(crate) fn unsound(table: Table) -> bool
-    ensures { result ≡ unsound_rows (map surface_in table) }
+    ensures { result ≡ unsound (map surface_in table) }
 {
-    let mut code: usize = 0;
-    while code < SURFACES {
-        let row = table[code];
+    for row in table {
         if !sound(row) {
             return true;
         }
-        code += 1;
     }
     false
 }
 
-// A row of a table of the lane is unsound.
+// A row of a table of the lane is unsound. The rows are read in place, so that check 21 copies no table.
 pub(crate) fn unsound_in(l: &Lane, table: usize) -> bool
     requires { table ≤ 9 }
-    ensures { result ≡ unsound_rows (table_from table l.now) }
+    ensures { result ≡ unsound (table_from table l.now) }
 {
-    let mut code: usize = 0;
-    while code < SURFACES {
+    for code in 0..SURFACES {
         if !sound(layout::surface_at(l, table, code)) {
             return true;
         }
-        code += 1;
     }
     false
 }
 
 // The row in force, of which 32 bits hold every number.
 pub(crate) fn row_in(l: &Lane, road: Road) -> Row
-    requires { (road_no road ≡ 0) × (unsound_rows (table_from 1 l.now) ≡ false) }
-    ensures { result ≡ row_in_of (tables_in l.now) road }
+    requires { (road_no road ≡ 0) × (unsound (table_from 1 l.now) ≡ false) }
+    ensures { result ≡ row_in (tables_in l.now) road }
 {
     let row = layout::surface_at(l, layout::IN_FORCE, road.surface as usize);
     Row {

@@ -1,17 +1,20 @@
 // The checks of each call, in the document's order, and the rules of a lane behind check 21.
-ghost use Rattle.std.specs.Prelude.{◌≡◌, false, List, ℕ, ◌+◌, ◌%◌, ◌≤◌, ◌<◌, length, get_or, take};
+ghost use Rattle.std.specs.Prelude.{◌≡◌, false, not, Some, is_some, IfOk, List, ℕ, ◌+◌, ◌%◌, ◌≤◌, ◌<◌, cond, length, get_or, take};
+ghost use Rattle.std.specs.Result.{result_unwrap_or};
 ghost use Rattle.std.proofs.Math.Seq.{slice};
 ghost use Rattle.headway.specs.Totals.{rest_of};
+ghost use Rattle.lane.specs.Refusals.{outcome_no};
 ghost use Rattle.lane.specs.Layout.{records_in, state_of};
-ghost use Rattle.lane.specs.Safety.{leader, guaranteed_rate as guaranteed_rate_of, reach_to as reach_to_of, safe_with, any_of, numbered};
-ghost use Rattle.lane.specs.Rules.{bad_number as bad_number_of, bad_rate as bad_rate_of, road_no, unlawful as unlawful_in, past_end as past_end_of, broken, carriers_no, lane_no, values_no, newcomer_no};
+ghost use Rattle.lane.specs.Safety.{leader, guaranteed_rate, reach_to, safe_with, any_of, numbered};
+ghost use Rattle.lane.specs.Rules.{bad_number, bad_rate, road_no, unlawful, past_end, broken, carriers_no, lane_no, values_no, newcomer_no};
 ghost use Rattle.lane.specs.Table.{table_in, bad_table, load_no};
-ghost use Rattle.lane.specs.Calls.{none, if_accepted, start_no, walk, gap_no, place_no, enter_no, named_no, place_of as place_in, ready_no};
+ghost use Rattle.lane.specs.Calls.{none, if_accepted, start_no, walk, gap_no, place_no, enter_no, named_no, place_of, ready_no};
 
 use crate::{
-    Carrier, FARTHEST_END, FASTEST, Found, HIGHEST_NUMBER, HIGHEST_RATE, LAST_CYCLE, LAST_SURFACE,
-    LONGEST_CARRIER, Lane, MOST_CARRIERS, Road, Row, layout, lookup, places, rows,
+    Carrier, FARTHEST_END, FASTEST, HIGHEST_NUMBER, HIGHEST_RATE, LAST_CYCLE, LAST_SURFACE,
+    LONGEST_CARRIER, Lane, MOST_CARRIERS, Refusal, Road, Row, Table, layout, lookup, places, rows,
 };
+use headway::{Rates, Vehicle};
 
 // A number that 32 bits hold, as those of a lawful carrier and of a sound row, or such a position and a length.
 pub(crate) fn narrow(x: u64) -> u32
@@ -22,54 +25,54 @@ pub(crate) fn narrow(x: u64) -> u32
 }
 
 // The checks of a road.
-fn road_refusal(road: Road) -> u32
-    ensures { result ≡ road_no road }
+fn check_road(road: Road) -> Result<(), Refusal>
+    ensures { outcome_no result ≡ road_no road }
 {
     if LAST_SURFACE < road.surface {
-        return 1;
+        return Err(Refusal::SurfaceUnknown);
     }
-    if (1 <= road.end) & (road.end <= FARTHEST_END) {
-        if (1 <= road.limit) & (road.limit <= FASTEST) {
-            return 0;
-        }
-        return 3;
+    if (road.end < 1) | (FARTHEST_END < road.end) {
+        return Err(Refusal::EndOutOfRange);
     }
-    2
+    if (road.limit < 1) | (FASTEST < road.limit) {
+        return Err(Refusal::LimitOutOfRange);
+    }
+    Ok(())
 }
 
 // The checks of start.
-pub(crate) fn start_refusal(l: &Lane, road: Road) -> u32
-    ensures { result ≡ start_no (state_of l.now) road }
+pub(crate) fn check_start(l: &Lane, road: Road) -> Result<(), Refusal>
+    ensures { outcome_no result ≡ start_no (state_of l.now) road }
 {
     if rows::unsound_in(l, layout::NEXT) {
-        return 21;
+        return Err(Refusal::LaneUnsound);
     }
-    road_refusal(road)
+    check_road(road)
 }
 
 fn bad_number(number: u64) -> bool
-    ensures { result ≡ bad_number_of number }
+    ensures { result ≡ bad_number number }
 {
     (number < 1) | (HIGHEST_NUMBER < number)
 }
 
 // A carrier's own rate out of its range.
 fn bad_rate(rate: u64) -> bool
-    ensures { result ≡ bad_rate_of rate }
+    ensures { result ≡ bad_rate rate }
 {
     (rate < 1) | (HIGHEST_RATE < rate)
 }
 
 // A carrier breaks a rule by itself.
 fn unlawful(road: Road, c: Carrier) -> bool
-    ensures { result ≡ unlawful_in road c }
+    ensures { result ≡ unlawful road c }
 {
     bad_number(c.number) | (road.limit < c.speed) | (LONGEST_CARRIER < c.length) | bad_rate(c.rate)
 }
 
 // A carrier's tail is at or past the lane end.
 pub(crate) fn past_end(road: Road, c: Carrier) -> bool
-    ensures { result ≡ past_end_of road c }
+    ensures { result ≡ past_end road c }
 {
     if c.position < c.length {
         return false;
@@ -78,37 +81,37 @@ pub(crate) fn past_end(road: Road, c: Carrier) -> bool
 }
 
 // The checks of a newcomer's speed, length and own rate.
-pub(crate) fn values_refusal(road: Road, c: Carrier) -> u32
-    ensures { result ≡ values_no road c }
+pub(crate) fn check_values(road: Road, c: Carrier) -> Result<(), Refusal>
+    ensures { outcome_no result ≡ values_no road c }
 {
     if road.limit < c.speed {
-        return 6;
+        return Err(Refusal::SpeedAboveLimit);
     }
     if LONGEST_CARRIER < c.length {
-        return 33;
+        return Err(Refusal::LengthTooLarge);
     }
     if bad_rate(c.rate) {
-        return 35;
+        return Err(Refusal::RateOutOfRange);
     }
-    0
+    Ok(())
 }
 
 // The checks of all its own values.
-fn newcomer_refusal(road: Road, c: Carrier) -> u32
-    ensures { result ≡ newcomer_no road c }
+fn check_newcomer(road: Road, c: Carrier) -> Result<(), Refusal>
+    ensures { outcome_no result ≡ newcomer_no road c }
 {
     if bad_number(c.number) {
-        return 4;
+        return Err(Refusal::NumberOutOfRange);
     }
     if road.end <= c.position {
-        return 5;
+        return Err(Refusal::PositionPastEnd);
     }
-    values_refusal(road, c)
+    check_values(road, c)
 }
 
 // The rate at which a carrier is sure to brake: its own or the row's, whichever is smaller.
 pub(crate) fn guaranteed_rate(row: Row, c: Carrier) -> u32
-    ensures { result ≡ guaranteed_rate_of row c }
+    ensures { result ≡ guaranteed_rate row c }
 {
     if c.rate < row.guaranteed as u64 {
         c.rate as u32
@@ -118,11 +121,43 @@ pub(crate) fn guaranteed_rate(row: Row, c: Carrier) -> u32
 }
 
 // What must stay below the position of the carrier ahead: its length is added here, since its tail may lie before the lane's start.
-pub(crate) fn reach_to(ahead: Carrier, c: Carrier) -> u32
+fn reach_to(ahead: Carrier, c: Carrier) -> u32
     requires { c.position + ahead.length < 4294967296 }
-    ensures { result ≡ reach_to_of ahead c }
+    ensures { result ≡ reach_to ahead c }
 {
     narrow(c.position + ahead.length)
+}
+
+// A lawful carrier by its front.
+pub(crate) fn front(c: Carrier) -> Vehicle
+    requires { (c.position < 4294967296) × (c.speed < 4294967296) }
+    ensures { result ≡ record { position = c.position; speed = c.speed } }
+{
+    Vehicle {
+        position: narrow(c.position),
+        speed: narrow(c.speed),
+    }
+}
+
+// The same by what must stay below the position of the carrier ahead.
+pub(crate) fn reach(ahead: Carrier, c: Carrier) -> Vehicle
+    requires { (c.position + ahead.length < 4294967296) × (c.speed < 4294967296) }
+    ensures { result ≡ record { position = reach_to ahead c; speed = c.speed } }
+{
+    Vehicle {
+        position: reach_to(ahead, c),
+        speed: narrow(c.speed),
+    }
+}
+
+// The rates of a carrier and of the one ahead of it.
+pub(crate) fn rates(row: Row, c: Carrier) -> Rates
+    ensures { result ≡ record { guaranteed = guaranteed_rate row c; hardest = row.hardest } }
+{
+    Rates {
+        guaranteed: guaranteed_rate(row, c),
+        hardest: row.hardest,
+    }
 }
 
 // Where a lawful carrier comes to rest that brakes at a rate.
@@ -130,12 +165,12 @@ fn rest(rate: u32, c: Carrier) -> u64
     requires { (c.position < 4294967296) × (c.speed < 4294967296) }
     ensures { result ≡ rest_of rate c.position c.speed }
 {
-    headway::rest(rate, narrow(c.position), narrow(c.speed))
+    front(c).rest(rate)
 }
 
 // The follower, whose rest is known, is safe behind the carrier ahead.
 fn safe_at(row: Row, ahead: Carrier, c: Carrier, stop: u64) -> bool
-    requires bound { ((1 ≤ guaranteed_rate_of row c) × (1 ≤ row.hardest)) × (stop ≡ rest_of (guaranteed_rate_of row c) c.position c.speed) }
+    requires bound { ((1 ≤ guaranteed_rate row c) × (1 ≤ row.hardest)) × (stop ≡ rest_of (guaranteed_rate row c) c.position c.speed) }
     requires length_bound { (c.position + ahead.length < 4294967296) × ((ahead.position < 4294967296) × (ahead.speed < 4294967296)) }
     ensures { result ≡ safe_with row (leader ahead) c }
 {
@@ -148,24 +183,11 @@ fn safe_at(row: Row, ahead: Carrier, c: Carrier, stop: u64) -> bool
 
 // The follower is safe behind the carrier ahead.
 pub(crate) fn safe(row: Row, ahead: Carrier, c: Carrier) -> bool
-    requires bound { (1 ≤ guaranteed_rate_of row c) × (1 ≤ row.hardest) }
+    requires bound { (1 ≤ guaranteed_rate row c) × (1 ≤ row.hardest) }
     requires length_bound { (c.position + ahead.length < 4294967296) × ((c.speed < 4294967296) × ((ahead.position < 4294967296) × (ahead.speed < 4294967296))) }
     ensures { result ≡ safe_with row (leader ahead) c }
 {
-    headway::safe_behind(
-        guaranteed_rate(row, c),
-        row.hardest,
-        reach_to(ahead, c),
-        narrow(c.speed),
-        narrow(ahead.position),
-        narrow(ahead.speed),
-    )
-}
-
-fn place_of(mark: u8) -> usize
-    ensures { result ≡ mark }
-{
-    mark as usize
+    reach(ahead, c).safe_behind(front(ahead), rates(row, c))
 }
 
 // Some carrier from `first` on has the number, of those alike in their low six bits: `next` leads from each of them to the next.
@@ -181,7 +203,7 @@ fn linked(l: &Lane, next: &[u8; 64], first: usize, count: usize, number: u64) ->
         if c.number == number {
             return true;
         }
-        place = place_of(next[place]);
+        place = usize::from(next[place]);
     }
     false
 }
@@ -189,22 +211,20 @@ fn linked(l: &Lane, next: &[u8; 64], first: usize, count: usize, number: u64) ->
 // The checks of the carriers, by the row in force: 36, and 37 where they are not safe but break no other rule. They are looked at from the back. A
 // number is searched for among those alike in their low six bits: `first` has the place of the first of each sort so far, and `next` links it to the
 // others.
-fn carriers_refusal(l: &Lane, road: Road, row: Row, count: usize) -> u32
+fn check_carriers(l: &Lane, road: Road, row: Row, count: usize) -> Result<(), Refusal>
     requires count_bound { (count ≤ 64) × ((length (records_in l.now) ≡ 64) × (road_no road ≡ 0)) }
     requires le_guaranteed { (1 ≤ row.guaranteed) × (1 ≤ row.hardest) }
-    ensures { result ≡ carriers_no row road (take count (records_in l.now)) }
+    ensures { outcome_no result ≡ carriers_no row road (take count (records_in l.now)) }
 {
     let mut behind = layout::no_carrier();
     let mut first: [u8; 64] = [64; 64];
     let mut next: [u8; 64] = [64; 64];
     let mut stop: u64 = 0;
     let mut safe = true;
-    let mut i = count;
-    while 0 < i {
-        i -= 1;
+    for i in (0..count).rev() {
         let c = layout::carrier_at(l, i);
         if unlawful(road, c) | past_end(road, c) {
-            return 36;
+            return Err(Refusal::HandoverMalformed);
         }
         if i + 1 < count {
             if !safe_at(row, c, behind, stop) {
@@ -215,166 +235,145 @@ fn carriers_refusal(l: &Lane, road: Road, row: Row, count: usize) -> u32
         stop = rest(guaranteed_rate(row, c), c);
         let sort = (c.number % 64) as usize;
         let mark = first[sort];
-        if linked(l, &next, place_of(mark), count, c.number) {
-            return 36;
+        if linked(l, &next, usize::from(mark), count, c.number) {
+            return Err(Refusal::HandoverMalformed);
         }
         next[i] = mark;
         first[sort] = i as u8;
     }
     if safe {
-        return 0;
+        return Ok(());
     }
-    37
+    Err(Refusal::HandoverUnsafe)
 }
 
-// What check 21 refuses: 36 for anything but safety, 37 where the lane isn't safe, 0 where it breaks no rule.
-pub(crate) fn lane_refusal(l: &Lane) -> u32
-    ensures { result ≡ lane_no (state_of l.now) }
+// What check 21 refuses: 36 for anything but safety, 37 where the lane isn't safe.
+pub(crate) fn check_lane(l: &Lane) -> Result<(), Refusal>
+    ensures { outcome_no result ≡ lane_no (state_of l.now) }
 {
     let f = layout::figures_of(l);
     let road = f.road;
     if !f.started {
-        return 36;
+        return Err(Refusal::HandoverMalformed);
     }
-    if road_refusal(road) != 0 {
-        return 36;
+    if check_road(road).is_err() {
+        return Err(Refusal::HandoverMalformed);
     }
     if rows::unsound_in(l, layout::IN_FORCE) | rows::unsound_in(l, layout::NEXT) {
-        return 36;
+        return Err(Refusal::HandoverMalformed);
     }
     if MOST_CARRIERS < f.count {
-        return 36;
+        return Err(Refusal::HandoverMalformed);
     }
-    carriers_refusal(l, road, rows::row_in(l, road), f.count)
+    check_carriers(l, road, rows::row_in(l, road), f.count)
 }
 
 // Check 21.
-pub(crate) fn breaks_rule(l: &Lane) -> bool
-    ensures { result ≡ broken (state_of l.now) }
+pub(crate) fn check_sound(l: &Lane) -> Result<(), Refusal>
+    ensures { outcome_no result ≡ cond (broken (state_of l.now)) 21 0 }
 {
-    lane_refusal(l) != 0
-}
-
-// A check's number, 0 where all are passed, and the place that the call is about.
-#[derive(Clone, Copy)]
-pub(crate) struct Checked {
-    pub(crate) no: u32,
-    pub(crate) place: usize,
-}
-
-pub(crate) fn refused(no: u32) -> Checked
-    ensures { result ≡ record { no = no; place = 0 } }
-{
-    Checked { no, place: 0 }
+    check_lane(l).or(Err(Refusal::LaneUnsound))
 }
 
 // The carriers next to a place: 25 and 26. A position and a length together are to be of 32 bits, and no own rate 0.
-fn gap_refusal(l: &Lane, row: Row, count: usize, place: usize, c: Carrier) -> u32
+fn check_neighbours(
+    l: &Lane,
+    row: Row,
+    count: usize,
+    place: usize,
+    c: Carrier,
+) -> Result<(), Refusal>
     requires place_le_count { (place ≤ count) × ((count ≤ 64) × (length (records_in l.now) ≡ 64)) }
     requires le_guaranteed { ((1 ≤ row.guaranteed) × (1 ≤ row.hardest)) × ((c.position < 4294901760) × ((c.speed < 4294967296) × ((c.length ≤ 65535) × (1 ≤ c.rate)))) }
     requires by_index { (i : ℕ) → i < count → ((get_or (records_in l.now) i none).position < 4294901760) × (((get_or (records_in l.now) i none).speed < 4294967296) × (((get_or (records_in l.now) i none).length ≤ 65535) × (1 ≤ (get_or (records_in l.now) i none).rate))) }
-    ensures { result ≡ gap_no row place c (take count (records_in l.now)) }
+    ensures { outcome_no result ≡ gap_no row place c (take count (records_in l.now)) }
 {
     if 0 < place {
         if !safe(row, layout::carrier_at(l, place - 1), c) {
-            return 25;
+            return Err(Refusal::UnsafeBehindLeader);
         }
     }
     if place < count {
         if !safe(row, c, layout::carrier_at(l, place)) {
-            return 26;
+            return Err(Refusal::FollowerUnsafe);
         }
     }
-    0
+    Ok(())
 }
 
 // The checks of a place for a newcomer, on a lane that breaks no rule: 22, 23, 25, 26.
-fn find_place(l: &Lane, c: Carrier) -> Checked
+fn find_place(l: &Lane, c: Carrier) -> Result<usize, Refusal>
     requires { (broken (state_of l.now) ≡ false) × (newcomer_no (state_of l.now).road c ≡ 0) }
-    ensures { (result.no ≡ place_no (state_of l.now) c) × (result.place ≡ if_accepted (place_no (state_of l.now) c) (walk c.position (state_of l.now).carriers) 0) }
+    ensures { (outcome_no result ≡ place_no (state_of l.now) c) × (result_unwrap_or result 0 ≡ if_accepted (place_no (state_of l.now) c) (walk c.position (state_of l.now).carriers) 0) }
 {
     let f = layout::figures_of(l);
     let road = f.road;
     let count = f.count;
     if count == MOST_CARRIERS {
-        return refused(22);
+        return Err(Refusal::LaneFull);
     }
     let named = lookup::find(l, c.number);
     let found = named.found;
-    if let Found::At(_) = found {
-        return refused(23);
+    if let Some(_) = found {
+        return Err(Refusal::NumberPresent);
     }
     let place = places::entry_place(l, count, c.position);
-    let no = gap_refusal(l, rows::row_in(l, road), count, place, c);
-    if no != 0 {
-        return refused(no);
-    }
-    Checked { no: 0, place }
+    check_neighbours(l, rows::row_in(l, road), count, place, c)?;
+    Ok(place)
 }
 
-pub(crate) fn check_enter(l: &Lane, c: Carrier) -> Checked
-    ensures { (result.no ≡ enter_no (state_of l.now) c) × (result.place ≡ if_accepted (enter_no (state_of l.now) c) (walk c.position (state_of l.now).carriers) 0) }
+pub(crate) fn check_enter(l: &Lane, c: Carrier) -> Result<usize, Refusal>
+    ensures { (outcome_no result ≡ enter_no (state_of l.now) c) × (result_unwrap_or result 0 ≡ if_accepted (enter_no (state_of l.now) c) (walk c.position (state_of l.now).carriers) 0) }
 {
-    if breaks_rule(l) {
-        return refused(21);
-    }
+    check_sound(l)?;
     let f = layout::figures_of(l);
-    let road = f.road;
-    let no = newcomer_refusal(road, c);
-    if no != 0 {
-        return refused(no);
-    }
+    check_newcomer(f.road, c)?;
     find_place(l, c)
 }
 
 // The checks of leave and read.
-pub(crate) fn check_named(l: &Lane, number: u64) -> Checked
-    ensures { (result.no ≡ named_no (state_of l.now) number) × (result.place ≡ if_accepted (named_no (state_of l.now) number) (place_in number (state_of l.now).carriers) 0) }
+pub(crate) fn check_named(l: &Lane, number: u64) -> Result<usize, Refusal>
+    ensures { (outcome_no result ≡ named_no (state_of l.now) number) × (result_unwrap_or result 0 ≡ if_accepted (named_no (state_of l.now) number) (place_of number (state_of l.now).carriers) 0) }
 {
-    if breaks_rule(l) {
-        return refused(21);
-    }
+    check_sound(l)?;
     if bad_number(number) {
-        return refused(4);
+        return Err(Refusal::NumberOutOfRange);
     }
     let named = lookup::find(l, number);
     let found = named.found;
     match found {
-        Found::At(place) => Checked { no: 0, place },
-        Found::Absent => refused(24),
+        Some(place) => Ok(place),
+        None => Err(Refusal::NumberAbsent),
     }
 }
 
-// The checks of load, given whether its table text is bad. A lane never started counts as empty and sound.
-pub(crate) fn load_refusal(l: &Lane, bad: bool) -> u32
-    ensures { (text : List ℕ) → bad_table (table_in text) ≡ bad → result ≡ load_no (state_of l.now) text }
+// The checks of load, which give the table that its text holds, if any. A lane never started counts as empty and sound.
+pub(crate) fn check_load(l: &Lane, loaded: Option<Table>) -> Result<Table, Refusal>
+    ensures number { (text : List ℕ) → bad_table (table_in text) ≡ not (is_some loaded) → outcome_no result ≡ load_no (state_of l.now) text }
+    ensures table { IfOk result (λ table. loaded ≡ Some table) }
 {
     let f = layout::figures_of(l);
-    if f.started & breaks_rule(l) {
-        return 21;
+    if f.started {
+        check_sound(l)?;
     }
-    if bad {
-        return 31;
-    }
+    let table = loaded.ok_or(Refusal::TableUnsound)?;
     if f.started & (0 < f.count) {
-        return 32;
+        return Err(Refusal::LaneOccupied);
     }
-    0
+    Ok(table)
 }
 
 // The checks of cycle before the wishes are looked at.
-pub(crate) fn check_ready(l: &Lane, count: usize) -> u32
-    ensures { result ≡ ready_no (state_of l.now) count }
+pub(crate) fn check_ready(l: &Lane, count: usize) -> Result<(), Refusal>
+    ensures { outcome_no result ≡ ready_no (state_of l.now) count }
 {
-    if breaks_rule(l) {
-        return 21;
-    }
+    check_sound(l)?;
     let f = layout::figures_of(l);
     if count != f.count {
-        return 27;
+        return Err(Refusal::CountDiffers);
     }
     if f.cycle == LAST_CYCLE {
-        return 28;
+        return Err(Refusal::CyclesExhausted);
     }
-    0
+    Ok(())
 }

@@ -1,11 +1,12 @@
 // A table of surface rows as text, put and read.
-ghost use Rattle.std.specs.Prelude.{◌≡◌, cond, List, [], ◌∷◌, ℕ, ◌+◌, ◌≤◌, length, drop};
+ghost use Rattle.std.specs.Prelude.{◌≡◌, true, false, MatchOption, map, List, [], ◌∷◌, ℕ, ◌+◌, ◌≤◌, length};
 ghost use Rattle.text.specs.Groups.{Got, got, missing, group_in, groups_in};
 ghost use Rattle.text.specs.Lines.{written};
 ghost use Rattle.lane.specs.Layout.{surface_in, table_from};
-ghost use Rattle.lane.specs.Table.{row_keys, row_text, table_text};
+ghost use Rattle.lane.specs.Table.{row_keys, row_text, table_text, table_in, bad_table, rows_loaded};
 
-use crate::{Lane, SURFACES, Table, layout};
+use crate::{Lane, SURFACES, Table, layout, rows};
+use text::Lines;
 
 // The keys of a row's lines: guaranteed braking, hardest braking, most acceleration.
 const GUARANTEED: [u8; 2] = *b"b=";
@@ -13,9 +14,6 @@ const GUARANTEED: [u8; 2] = *b"b=";
 const HARDEST: [u8; 2] = *b"B=";
 
 const MOST: [u8; 2] = *b"A=";
-
-// The most that a line's number is.
-pub(crate) const WIDEST: u64 = 0xFFFF_FFFF_FFFF_FFFF;
 
 // How long a row's lines are.
 fn row_length(row: [u64; 3]) -> usize
@@ -30,10 +28,8 @@ pub(crate) fn text_length(l: &Lane, table: usize) -> usize
     ensures { (result ≡ length (table_text (table_from table l.now))) × (result ≤ 552) }
 {
     let mut n: usize = 0;
-    let mut code: usize = 0;
-    while code < SURFACES {
+    for code in 0..SURFACES {
         n += row_length(layout::surface_at(l, table, code));
-        code += 1;
     }
     n
 }
@@ -55,75 +51,44 @@ pub(crate) fn put_text(l: &Lane, table: usize, out: &mut [u8], at: usize) -> usi
     ensures value { result ≡ at + length (table_text (table_from table l.now)) }
 {
     let mut place = at;
-    let mut code: usize = 0;
-    while code < SURFACES {
+    for code in 0..SURFACES {
         place = put_row(out, place, layout::surface_at(l, table, code));
-        code += 1;
     }
     place
 }
 
-// Whether lines are there, and the place after them; where they are not, any place.
-#[derive(Clone, Copy)]
-pub(crate) struct Lines {
-    pub(crate) ok: bool,
-    pub(crate) next: usize,
-}
-
-// The same of a row, with its numbers.
-#[derive(Clone, Copy)]
-pub(crate) struct RowRead {
-    pub(crate) ok: bool,
-    pub(crate) row: [u64; 3],
-    pub(crate) next: usize,
-}
-
-// A field that is missing leaves the place where it is, so that a row's fields are all read and then looked at together.
-fn read_row(text: &[u8], at: usize) -> RowRead
-    ensures { group_in row_keys (drop at text.now) ≡ cond result.ok (got result.row (drop result.next text.now)) missing }
+// A row's numbers, where its lines come next.
+fn read_row(lines: &mut Lines) -> Option<[u64; 3]>
+    ensures { MatchOption result (group_in row_keys lines.old.rest.now ≡ missing) (λ row. group_in row_keys lines.old.rest.now ≡ got row lines.new.rest.now) }
 {
-    let guaranteed = text::read_field(text, at, &GUARANTEED, WIDEST);
-    let hardest = text::read_field(text, guaranteed.next, &HARDEST, WIDEST);
-    let most = text::read_field(text, hardest.next, &MOST, WIDEST);
-    RowRead {
-        ok: guaranteed.ok & hardest.ok & most.ok,
-        row: [guaranteed.value, hardest.value, most.value],
-        next: most.next,
-    }
+    let guaranteed = lines.number(&GUARANTEED, u64::MAX)?;
+    let hardest = lines.number(&HARDEST, u64::MAX)?;
+    let most = lines.number(&MOST, u64::MAX)?;
+    Some([guaranteed, hardest, most])
 }
 
-// The length of an array behind a reference is known where it is lent as a slice. No code is left of it.
-fn as_rows(s: &[[u64; 3]]) {}
-
-fn sized(table: &Table)
-    ensures { length table.now ≡ 8 }
+// The rows of a table, where their lines come next.
+pub(crate) fn read(lines: &mut Lines) -> Option<Table>
+    ensures { MatchOption result (groups_in row_keys 8 lines.old.rest.now ≡ missing) (λ table. groups_in row_keys 8 lines.old.rest.now ≡ got table lines.new.rest.now) }
 {
-    as_rows(table);
+    let mut table = [[0u64; 3]; SURFACES];
+    for row in table.iter_mut() {
+        *row = read_row(lines)?;
+    }
+    Some(table)
 }
 
-// The rows of a table text at a place, put in a table; where a line is missing, the rows before it.
-pub(crate) fn read(text: &[u8], at: usize, table: &mut Table) -> Lines
-    ensures text_value { groups_in row_keys 8 (drop at text.now) ≡ cond result.ok (got table.new (drop result.next text.now)) missing }
-    ensures table_len { length table.new ≡ 8 }
+// The rows of a table text, where nothing follows them and each is sound.
+pub(crate) fn loaded(text: &[u8]) -> Option<Table>
+    ensures { MatchOption result (bad_table (table_in text.now) ≡ true) (λ table. (bad_table (table_in text.now) ≡ false) × (rows_loaded (table_in text.now) ≡ map surface_in table)) }
 {
-    sized(table);
-    let mut place = at;
-    let mut code: usize = 0;
-    while code < SURFACES {
-        let lines = read_row(text, place);
-        if !lines.ok {
-            return Lines {
-                ok: false,
-                next: at,
-            };
-        }
-        let row = lines.row;
-        table[code] = row;
-        place = lines.next;
-        code += 1;
+    let mut lines = Lines { rest: text };
+    let table = read(&mut lines)?;
+    if !lines.rest.is_empty() {
+        return None;
     }
-    Lines {
-        ok: true,
-        next: place,
+    if rows::unsound(table) {
+        return None;
     }
+    Some(table)
 }

@@ -1,13 +1,12 @@
 // The whole lane as text, put and read: the rows in force and those for the next start, the road and the cycle number, and the lane text.
-ghost use Rattle.std.specs.Prelude.{◌≡◌, cond, List, [], ◌∷◌, ◌+◌, ◌≤◌, length, drop};
+ghost use Rattle.std.specs.Prelude.{◌≡◌, MatchOption, List, [], ◌∷◌, ◌+◌, ◌≤◌, length};
 ghost use Rattle.text.specs.Groups.{Got, got, missing, group_text, group_in};
 ghost use Rattle.text.specs.Lines.{written};
 ghost use Rattle.lane.specs.Layout.{state_of};
 ghost use Rattle.lane.specs.Handover.{road_keys, handover_text, handover_in};
 
-use crate::{
-    CYCLE, END, LIMIT, Lane, MOST_CARRIERS, Road, SURFACE, SURFACES, layout, listing, table,
-};
+use crate::{CYCLE, END, LIMIT, Lane, MOST_CARRIERS, Road, SURFACE, layout, listing, table};
+use text::Lines;
 
 // How long the lines of the road and of the cycle number are.
 fn road_length(road: Road, cycle: u64) -> usize
@@ -57,58 +56,48 @@ pub(crate) fn put_text(l: &Lane, out: &mut [u8]) -> usize
     listing::put_text(l, out, figures)
 }
 
-// Whether the lines of the road and of the cycle number are there, what they say, and the place after them.
-#[derive(Clone, Copy)]
-pub(crate) struct RoadRead {
-    pub(crate) ok: bool,
-    pub(crate) road: Road,
-    pub(crate) cycle: u64,
-    pub(crate) next: usize,
+// The road and the cycle number, where their lines come next.
+fn read_road(lines: &mut Lines) -> Option<(Road, u64)>
+    ensures { MatchOption result (group_in road_keys lines.old.rest.now ≡ missing) (λ r. group_in road_keys lines.old.rest.now ≡ got (r.0.surface ∷ r.0.end ∷ r.0.limit ∷ r.1 ∷ []) lines.new.rest.now) }
+{
+    let surface = lines.number(&SURFACE, listing::BITS_32)?;
+    let end = lines.number(&END, listing::BITS_32)?;
+    let limit = lines.number(&LIMIT, listing::BITS_32)?;
+    let cycle = lines.number(&CYCLE, u64::MAX)?;
+    let road = Road {
+        surface,
+        end,
+        limit,
+    };
+    Some((road, cycle))
 }
 
-fn read_road(text: &[u8], at: usize) -> RoadRead
-    ensures { group_in road_keys (drop at text.now) ≡ cond result.ok (got (result.road.surface ∷ result.road.end ∷ result.road.limit ∷ result.cycle ∷ []) (drop result.next text.now)) missing }
+// The lane that the text holds, put in place of the one lent; where it holds none, any lane is left.
+pub(crate) fn read(l: &mut Lane, text: &[u8]) -> Option<()>
+    ensures { MatchOption result (handover_in text.now ≡ missing) (λ _. handover_in text.now ≡ got (state_of l.new) []) }
 {
-    let surface = text::read_field(text, at, &SURFACE, listing::BITS_32);
-    let end = text::read_field(text, surface.next, &END, listing::BITS_32);
-    let limit = text::read_field(text, end.next, &LIMIT, listing::BITS_32);
-    let cycle = text::read_field(text, limit.next, &CYCLE, table::WIDEST);
-    RoadRead {
-        ok: surface.ok & end.ok & limit.ok & cycle.ok,
-        road: Road {
-            surface: surface.value,
-            end: end.value,
-            limit: limit.value,
-        },
-        cycle: cycle.value,
-        next: cycle.next,
-    }
-}
-
-// Whether the text holds a lane, which is then put in place of the one lent. Lines are read on behind a missing one, and all looked at together.
-pub(crate) fn read(l: &mut Lane, text: &[u8]) -> bool
-    ensures { handover_in text.now ≡ cond result (got (state_of l.new) []) missing }
-{
-    let mut rows = [[0u64; 3]; SURFACES];
-    let in_force = table::read(text, 0, &mut rows);
+    let mut lines = Lines { rest: text };
+    let in_force = table::read(&mut lines)?;
+    let next = table::read(&mut lines)?;
+    let (road, cycle) = read_road(&mut lines)?;
+    let cars = lines.number(&listing::CARS, MOST_CARRIERS as u64)?;
+    let count = cars as usize;
     // The rows in force come by way of those for the next start.
-    layout::put_next(l, rows);
+    layout::put_next(l, in_force);
     layout::put_in_force(l);
-    let next = table::read(text, in_force.next, &mut rows);
-    layout::put_next(l, rows);
-    let figures = read_road(text, next.next);
-    let cars = text::read_field(text, figures.next, &listing::CARS, MOST_CARRIERS as u64);
-    let count = cars.value as usize;
-    let road = figures.road;
+    layout::put_next(l, next);
     layout::put_figures(
         l,
         layout::Figures {
             started: true,
             road,
-            cycle: figures.cycle,
+            cycle,
             count,
         },
     );
-    let carriers = listing::read_carriers(l, text, cars.next, count);
-    in_force.ok & next.ok & figures.ok & cars.ok & carriers.ok & (text.len() <= carriers.next)
+    listing::read_carriers(l, &mut lines, count)?;
+    if !lines.rest.is_empty() {
+        return None;
+    }
+    Some(())
 }

@@ -1,10 +1,11 @@
 // Another surface under the carriers: whether they are safe by its row.
 ghost use Rattle.std.specs.Prelude.{◌≡◌, not, ℕ, ◌≤◌, ◌<◌, length, get_or, take};
+ghost use Rattle.lane.specs.Refusals.{outcome_no};
 ghost use Rattle.lane.specs.Layout.{records_in, state_of};
 ghost use Rattle.lane.specs.Safety.{lane_safe};
 ghost use Rattle.lane.specs.Calls.{none, surface_no};
 
-use crate::{LAST_SURFACE, Lane, Road, Row, layout, rows, rules};
+use crate::{LAST_SURFACE, Lane, Refusal, Road, Row, layout, rows, rules};
 
 // Some carrier is not safe behind the next one ahead.
 fn any_unsafe(l: &Lane, row: Row, count: usize) -> bool
@@ -13,26 +14,22 @@ fn any_unsafe(l: &Lane, row: Row, count: usize) -> bool
     requires by_index { (i : ℕ) → i < count → ((get_or (records_in l.now) i none).position < 4294901760) × (((get_or (records_in l.now) i none).speed < 4294967296) × (((get_or (records_in l.now) i none).length ≤ 65535) × (1 ≤ (get_or (records_in l.now) i none).rate))) }
     ensures { result ≡ not (lane_safe row (take count (records_in l.now))) }
 {
-    let mut place: usize = 1;
-    while place < count {
+    for place in 1..count {
         let ahead = layout::carrier_at(l, place - 1);
         if !rules::safe(row, ahead, layout::carrier_at(l, place)) {
             return true;
         }
-        place += 1;
     }
     false
 }
 
 // The checks of a change of surface.
-pub(crate) fn surface_refusal(l: &Lane, code: u64) -> u32
-    ensures { result ≡ surface_no (state_of l.now) code }
+pub(crate) fn check_surface(l: &Lane, code: u64) -> Result<(), Refusal>
+    ensures { outcome_no result ≡ surface_no (state_of l.now) code }
 {
-    if rules::breaks_rule(l) {
-        return 21;
-    }
+    rules::check_sound(l)?;
     if LAST_SURFACE < code {
-        return 1;
+        return Err(Refusal::SurfaceUnknown);
     }
     let f = layout::figures_of(l);
     let road = f.road;
@@ -42,7 +39,7 @@ pub(crate) fn surface_refusal(l: &Lane, code: u64) -> u32
         limit: road.limit,
     };
     if any_unsafe(l, rows::row_in(l, surfaced), f.count) {
-        return 34;
+        return Err(Refusal::SurfaceUnsafe);
     }
-    0
+    Ok(())
 }

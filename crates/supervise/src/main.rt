@@ -3,43 +3,40 @@
 
 mod pipe;
 
+use pipe::Told;
 use std::env::FillError;
 use std::io::Input;
 use std::rt::{Clock, Env};
 
 // The blocks in turn, until one stops the program, or the output takes no more. A step that does not stop takes at least one byte.
-fn run(rt: &(impl Print + Eprint + Clock), input: &[u8]) {
+fn run(rt: &(impl Print + Eprint + Clock), input: &[u8]) -> Result<(), Told> {
     let mut lane = [[0u64; lane::ROW_WORDS]; lane::ROWS];
     lane::empty(&mut lane);
     let mut space = [0u8; console::ANSWER_SPACE];
     let mut at: usize = 0;
-    let mut turns = input.len();
-    while turns > 0 {
+    for _ in 0..input.len() {
         let out: &mut [u8] = &mut space;
         let s = console::step(&mut lane, input, at, out);
         let n = s.written;
-        if !pipe::write_whole(rt, &space[..n]) {
-            return;
-        }
+        pipe::write_whole(rt, &space[..n])?;
         if s.stop {
-            return;
+            break;
         }
         at = s.next;
-        turns -= 1;
     }
+    Ok(())
 }
 
 // The space is one byte longer than an input may be. Of a longer one nothing is run.
-fn supervise(rt: &(impl Input + Print + Eprint + Clock), space: &mut [u8]) {
-    let n = pipe::read_whole(rt, space);
+fn supervise(rt: &(impl Input + Print + Eprint + Clock), space: &mut [u8]) -> Result<(), Told> {
+    let n = pipe::read_whole(rt, space)?;
     let mut line = [0u8; console::ANSWER_SPACE];
     let out: &mut [u8] = &mut line;
     let w = console::refuse_long(n, out);
     if w > 0 {
-        pipe::write_whole(rt, &line[..w]);
-        return;
+        return pipe::write_whole(rt, &line[..w]);
     }
-    run(rt, &space[..n]);
+    run(rt, &space[..n])
 }
 
 // Whether there is an argument beside the program's name, be it empty.
@@ -55,6 +52,7 @@ fn main(rt: HostRuntime) {
         return;
     }
     let mut space = [0u8; console::LONGEST_INPUT + 1];
-    supervise(&rt, &mut space);
+    // A failure to read or to write has been told, and the output is closed all the same.
+    let _ = supervise(&rt, &mut space);
     pipe::close_output(&rt);
 }

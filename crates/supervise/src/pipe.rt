@@ -1,6 +1,6 @@
 // Bytes moved between the standard streams and slices. A call that moves fewer bytes than asked goes on from there, and one that was interrupted
 // or came too early is made again. Any other failure ends the moving and is told on standard error.
-ghost use Rattle.std.specs.Prelude.{◌≡◌, ◌+◌, ◌≤◌, length};
+ghost use Rattle.std.specs.Prelude.{◌≤◌, length, IfOk, IfSome};
 
 use std::fmt::InlineText;
 use std::fs::{File, OpenFile};
@@ -9,14 +9,9 @@ use std::rt::{Clock, Files};
 use std::time::Duration;
 use std::{fs, io, thread};
 
-// What one call moved, whether it moved nothing as at the end of the input, and whether it failed. One that is to be made again has none of
-// the three.
-#[derive(Drop)]
-struct Moved {
-    bytes: usize,
-    end: bool,
-    failed: bool,
-}
+// A failure that has been told on standard error.
+#[derive(Clone, Copy)]
+pub(crate) struct Told;
 
 // The words of an error without the number that stands after the system's.
 fn words_alone(text: &str) -> &str {
@@ -52,99 +47,67 @@ fn again(clock: &impl Clock, error: &io::Error) -> bool {
     kind == ErrorKind::Interrupted
 }
 
-// What a call's answer means. A failure is told.
-fn taken(rt: &(impl Eprint + Clock), what: &str, got: io::Result<usize>, most: usize) -> Moved
-    ensures { result.bytes ≤ most }
+// The bytes that a call moved, of at most so many: none where it is to be made again. Any other failure is told.
+fn taken(
+    rt: &(impl Eprint + Clock),
+    what: &str,
+    got: io::Result<usize>,
+    most: usize,
+) -> Result<Option<usize>, Told>
+    ensures { IfOk result (λ moved. IfSome moved (λ n. n ≤ most)) }
 {
     match got {
-        Ok(n) => Moved {
-            bytes: n.min(most),
-            end: n == 0,
-            failed: false,
-        },
+        Ok(n) => Ok(Some(n.min(most))),
+        Err(error) if again(rt, &error) => Ok(None),
         Err(error) => {
-            let failed = !again(rt, &error);
-            if failed {
-                fail(rt, what, error);
-            }
-            Moved {
-                bytes: 0,
-                end: false,
-                failed,
-            }
+            fail(rt, what, error);
+            Err(Told)
         }
     }
 }
 
-fn read_once<I: Read>(
-    rt: &(impl Eprint + Clock),
-    input: &mut I,
-    buf: &mut [u8],
-    from: usize,
-) -> Moved
-    requires { from ≤ length buf.old }
-    ensures bytes_in_bounds { from + result.bytes ≤ length buf.old }
-    ensures buf_len_unchanged { length buf.new ≡ length buf.old }
-{
-    let room = buf.len() - from;
-    let got = input.read(&mut buf[from..]);
-    taken(rt, "reading standard input", got, room)
-}
-
-// The input up to the buffer's length, or no byte of it where a call fails: a part is not run as if it were the whole. A proved loop has to
-// end, and nothing says that an input does: so the turns are counted down, from a number that no run uses up.
-pub(crate) fn read_whole(rt: &(impl Input + Eprint + Clock), buf: &mut [u8]) -> usize
-    ensures { result ≤ length buf.new }
+// The input up to the buffer's length; a part is not run as if it were the whole. A proved loop has to end, and nothing says that an input does: so
+// the turns are counted, up to a number that no run uses up.
+pub(crate) fn read_whole(rt: &(impl Input + Eprint + Clock), buf: &mut [u8]) -> Result<usize, Told>
+    ensures { IfOk result (λ n. n ≤ length buf.new) }
 {
     let mut input = rt.reader();
-    let mut turns = u64::MAX;
     let mut at: usize = 0;
-    while turns > 0 {
-        if buf.len() <= at {
-            return at;
+    for _ in 0..u64::MAX {
+        let room = buf.len() - at;
+        if room == 0 {
+            return Ok(at);
         }
-        let m = read_once(rt, &mut input, buf, at);
-        if m.failed {
-            return 0;
+        let got = input.read(&mut buf[at..]);
+        match taken(rt, "reading standard input", got, room)? {
+            Some(0) => return Ok(at),
+            Some(n) => at += n,
+            None => {}
         }
-        if m.end {
-            return at;
-        }
-        at += m.bytes;
-        turns -= 1;
     }
-    0
+    Ok(0)
 }
 
-fn write_once(rt: &(impl Print + Eprint + Clock), buf: &[u8], from: usize) -> Moved
-    requires { from ≤ length buf.now }
-    ensures { from + result.bytes ≤ length buf.now }
-{
-    let left = buf.len() - from;
-    let got = rt.write_some(&buf[from..]);
-    let m = taken(rt, "writing standard output", got, left);
-    if m.end {
-        tell(rt, "writing standard output", "no byte was taken");
-    }
-    m
-}
-
-// All of it, or false: an output that takes no byte takes none later.
-pub(crate) fn write_whole(rt: &(impl Print + Eprint + Clock), buf: &[u8]) -> bool {
-    let mut turns = u64::MAX;
+// All of it: an output that takes no byte takes none later.
+pub(crate) fn write_whole(rt: &(impl Print + Eprint + Clock), buf: &[u8]) -> Result<(), Told> {
+    let what = "writing standard output";
     let mut at: usize = 0;
-    while turns > 0 {
-        if buf.len() <= at {
-            return true;
+    for _ in 0..u64::MAX {
+        let left = buf.len() - at;
+        if left == 0 {
+            return Ok(());
         }
-        let m = write_once(rt, buf, at);
-        if m.failed | m.end {
-            return false;
+        let got = rt.write_some(&buf[at..]);
+        match taken(rt, what, got, left)? {
+            Some(0) => {
+                tell(rt, what, "no byte was taken");
+                return Err(Told);
+            }
+            Some(n) => at += n,
+            None => {}
         }
-        at += m.bytes;
-        turns -= 1;
     }
-    false
+    Err(Told)
 }
 
 // What the system calls the file under a process's own standard output.

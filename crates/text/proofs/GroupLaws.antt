@@ -6,19 +6,17 @@ use mathlib.Core.List.{List, [], ◌∷◌, ◌++◌, append_assoc, append-nil}
 use Prim.Native.Nat.{ℕ, zero, suc, ◌+◌, ◌-◌, ◌≤◌, ◌<◌}
 use native.Mathlib.Omega.{arith}
 use lib.Dec.{leb, eqb}
-use lib.ListN.{length, get_or, drop, length-drop, length-append}
-use lib.Seq.{drop-drop, drop-append_seam}
-use borrow.Author.Tests.{le-leb, lt-leb, leb-true, eqb-false, not-true}
+use lib.ListN.{length, get_or, take, drop, length-append}
+use lib.Seq.{drop-append_seam}
+use borrow.Author.Tests.{leb-true, eqb-false, not-true}
 use Rattle.text.specs.Numbers.{decimal}
 use Rattle.text.specs.Lines.{line, written}
-use Rattle.text.specs.Fields.{line_length, field_in, is_number, value_in, FieldRead}
-use Rattle.text.specs.Groups.{Key, group_text, groups_text, Got, got, missing, and_then, whole, number_line, group_in, groups_in}
-use Rattle.text.specs.declared.fields.Field.{Field}
-use Rattle.text.specs.declared.numbers.Number.{Number}
-use Rattle.text.specs.declared.numbers.Number.TheVariants.{Is, Malformed}
+use Rattle.text.specs.Fields.{line_length, has_line, line_value, number_in, field_in, is_number, value_in}
+use Rattle.text.specs.Groups.{Key, group_text, groups_text, Got, got, missing, and_then, whole, value_line, number_line, group_in, groups_in}
+use Rattle.std.specs.Prelude.{Option, Some, None}
 use Rattle.text.proofs.Laws.{decimal_at_most, length_line, place_fits, Put, put_both}
 use Rattle.text.proofs.Reading.{both}
-use Rattle.text.proofs.ReadLaws.{number_is, number_value, no_number, no_bytes, no_newline, decimal_no_newline, length_of_line, field_read, field_put, field_whole}
+use Rattle.text.proofs.ReadLaws.{line_within, number_is, number_value, no_number, no_bytes, no_newline, decimal_no_newline, length_of_line, field_read, field_put, field_whole}
 
 -- the key of a group's line, from 0 on
 abbrev pub key_at : List Key → ℕ → Key
@@ -111,12 +109,12 @@ pub line_taken : (k : Key) (t : List ℕ) (n : ℕ) (rest : List ℕ) → number
 unfolding number_line
 line_taken k t n rest e = by_number (field_in k.name k.most t) refl e
   where
-    by_number : (m : Number) → field_in k.name k.most t ≡ m → cond (is_number m) (got (value_in m) (drop (suc (line_length t)) t)) missing ≡ got n rest
+    by_number : (m : Option ℕ) → field_in k.name k.most t ≡ m → cond (is_number m) (got (value_in m) (drop (suc (line_length t)) t)) missing ≡ got n rest
         → (t ≡ line k.name (decimal n) ++ rest) × (n ≤ k.most)
-    by_number (Is m) f e =
+    by_number (Some m) f e =
         let g = got_injective (rw (number_is m, number_value m) at e) in
         rw (sym g.0, sym g.1) (field_whole k.name k.most t m f, (field_put k.name k.most t m f).2)
-    by_number Malformed f e = absurd (got≢missing (sym (rw no_number at e)))
+    by_number None f e = absurd (got≢missing (sym (rw no_number at e)))
 
 pub group_taken : (ks : List Key) (t ns rest : List ℕ) → group_in ks t ≡ got ns rest → (t ≡ group_text ks ns ++ rest) × Held ks ns
 unfolding group_in
@@ -153,55 +151,107 @@ before_both : {A : Type 0} (some others : List A) (x : Got (List A)) → before 
 before_both some others (got bs t) = ap (λ (l : List _). got l t) (sym (append_assoc some others bs))
 before_both some others missing = refl
 
--- what comes after it, where it is told whether it is there
-then_told : {A B : Type 0} (ok : Bool) (a : A) (t : List ℕ) (next : A → List ℕ → Got B) → and_then (cond ok (got a t) missing) next ≡ cond ok (next a t) missing
-then_told true a t next = refl
-then_told false a t next = refl
+-- ---- what is told of a line
+
+-- a line with a value that is there
+pub record ValueTold (key t value rest : List ℕ) : Type 0 where
+  pub there : has_line key t ≡ true
+  pub value_is : value ≡ line_value key t
+  pub rest_is : rest ≡ drop (suc (line_length t)) t
+  pub within : suc (line_length t) ≤ length t
+
+pub value_told : (key t : List ℕ) {value rest : List ℕ} → value_line key t ≡ got value rest → ValueTold key t value rest
+unfolding value_line
+value_told key t {value} {rest} e = by_test (has_line key t) refl e
+  where
+    by_test : (b : Bool) → has_line key t ≡ b → cond b (got (line_value key t) (drop (suc (line_length t)) t)) missing ≡ got value rest → ValueTold key t value rest
+    by_test true h f =
+        let g = got_injective f in
+        record { there = h; value_is = sym g.0; rest_is = sym g.1; within = line_within key t h }
+    by_test false h f = absurd (got≢missing (sym f))
+
+-- where there is none, the value is empty
+pub value_missing : (key t : List ℕ) → value_line key t ≡ missing → line_value key t ≡ []
+unfolding value_line line_value
+value_missing key t e = by_test (has_line key t) refl e
+  where
+    by_test : (b : Bool) → has_line key t ≡ b → cond b (got (line_value key t) (drop (suc (line_length t)) t)) missing ≡ missing
+        → cond (has_line key t) (drop (length key) (take (line_length t) t)) [] ≡ []
+    by_test true h f = absurd (got≢missing f)
+    by_test false h f = rw h refl
+
+-- a line with a number that is there
+pub record NumberTold (k : Key) (t : List ℕ) (n : ℕ) (rest : List ℕ) : Type 0 where
+  pub field_is : field_in k.name k.most t ≡ Some n
+  pub rest_is : rest ≡ drop (suc (line_length t)) t
+  pub within : suc (line_length t) ≤ length t
+
+pub number_told : (k : Key) (t : List ℕ) {n : ℕ} {rest : List ℕ} → number_line k t ≡ got n rest → NumberTold k t n rest
+unfolding number_line
+number_told k t {n} {rest} e = by_number (field_in k.name k.most t) refl e
+  where
+    by_number : (m : Option ℕ) → field_in k.name k.most t ≡ m → cond (is_number m) (got (value_in m) (drop (suc (line_length t)) t)) missing ≡ got n rest
+        → NumberTold k t n rest
+    by_number (Some m) f e =
+        let g = got_injective (rw (number_is m, number_value m) at e) in
+        record { field_is = f ∙ ap Some g.0; rest_is = sym g.1; within = line_within k.name t (field_put k.name k.most t m f).0 }
+    by_number None f e = absurd (got≢missing (sym (rw no_number at e)))
+
+pub number_missing : (k : Key) (t : List ℕ) → number_line k t ≡ missing → field_in k.name k.most t ≡ None
+unfolding number_line
+number_missing k t e = by_number (field_in k.name k.most t) refl e
+  where
+    by_number : (m : Option ℕ) → field_in k.name k.most t ≡ m → cond (is_number m) (got (value_in m) (drop (suc (line_length t)) t)) missing ≡ missing
+        → field_in k.name k.most t ≡ None
+    by_number (Some m) f e = absurd (got≢missing (rw (number_is m, number_value m) at e))
+    by_number None f e = f
+
+-- the value of a line decides the number
+abbrev pub number_as : Option ℕ → List ℕ → Got ℕ
+number_as (Some n) rest = got n rest
+number_as None rest = missing
+
+pub number_of_none : (k : Key) (t : List ℕ) → value_line k.name t ≡ missing → number_line k t ≡ missing
+unfolding value_line number_line field_in
+number_of_none k t e = by_test (has_line k.name t) refl e
+  where
+    by_test : (b : Bool) → has_line k.name t ≡ b → cond b (got (line_value k.name t) (drop (suc (line_length t)) t)) missing ≡ missing
+        → cond (is_number (cond (has_line k.name t) (number_in k.most (line_value k.name t)) None))
+        (got (value_in (cond (has_line k.name t) (number_in k.most (line_value k.name t)) None)) (drop (suc (line_length t)) t)) missing ≡ missing
+    by_test true h f = absurd (got≢missing f)
+    by_test false h f = rw (h, no_number) refl
+
+pub number_of_value : (k : Key) (t : List ℕ) {value rest : List ℕ} {m : Option ℕ} → value_line k.name t ≡ got value rest → number_in k.most value ≡ m
+    → number_line k t ≡ number_as m rest
+unfolding number_line field_in
+number_of_value k t {value} {rest} {m} e f =
+    let told = value_told k.name t e in
+    rw (told.there, ← told.value_is, f) (by_number m)
+  where
+    by_number : (m : Option ℕ) → cond (is_number m) (got (value_in m) (drop (suc (line_length t)) t)) missing ≡ number_as m rest
+    by_number (Some n) = rw (number_is n, number_value n) (ap (got n) (sym (value_told k.name t e).rest_is))
+    by_number None = rw no_number refl
 
 -- ---- field after field
 
--- a line with a number, as `read_field` tells of it
-pub line_told : (k : Key) (text : List ℕ) (at : ℕ) (f : Field) → FieldRead k.name k.most text at f
-    → number_line k (drop at text) ≡ cond f.ok (got f.value (drop f.next text)) missing
-unfolding number_line
-line_told k text at f told =
-    let m = field_in k.name k.most (drop at text) in
-    rw (told.ok, told.value, told.next) (by_test (is_number m) (value_in m) (suc (line_length (drop at text))))
-  where
-    by_test : (t : Bool) (n l : ℕ) → cond t (got n (drop l (drop at text))) missing ≡ cond t (got n (drop (cond t (at + l) at) text)) missing
-    by_test true n l = ap (got n) (drop-drop l at text)
-    by_test false n l = refl
-
--- the first keys of a group are read, whatever the others are
-pub record GroupRead (text : List ℕ) (at : ℕ) (ks : List Key) (ok : Bool) (ns : List ℕ) (next : ℕ) : Type 0 where
-  pub rest : (more : List Key)
-      → group_in (ks ++ more) (drop at text) ≡ cond ok (and_then (group_in more (drop next text)) (λ ms t. got (ns ++ ms) t)) missing
-
-pub group_first : (k : Key) (text : List ℕ) (at : ℕ) (f : Field) → FieldRead k.name k.most text at f
-    → GroupRead text at (k ∷ []) f.ok (f.value ∷ []) f.next
+pub group_end : (t : List ℕ) → group_in [] t ≡ got [] t
 unfolding group_in
-group_first k text at f told =
-    record { rest = λ more. rw (line_told k text at f told) (then_told f.ok f.value (drop f.next text) _) }
+group_end t = refl
 
-pub group_next : {text : List ℕ} {at : ℕ} {ks : List Key} {ok : Bool} {ns : List ℕ} {next : ℕ} → GroupRead text at ks ok ns next
-    → (k : Key) (f : Field) → FieldRead k.name k.most text next f
-    → GroupRead text at (ks ++ (k ∷ [])) (ok && f.ok) (ns ++ (f.value ∷ [])) f.next
-group_next {text} {at} {ks} {ok} {ns} {next} first k f told =
-    record {
-      rest = λ more.
-          rw (append_assoc, first.rest (k ∷ more), (group_first k text next f told).rest more) (by_tests ok f.ok (group_in more (drop f.next text)));
-    }
-  where
-    by_tests : (s t : Bool) (x : Got (List ℕ))
-        → cond s (before ns (cond t (before (f.value ∷ []) x) missing)) missing ≡ cond (s && t) (before (ns ++ (f.value ∷ [])) x) missing
-    by_tests true true x = before_both ns (f.value ∷ []) x
-    by_tests true false x = refl
-    by_tests false t x = refl
+module _ (k : Key) (ks : List Key) (t : List ℕ) where
+  pub group_stop : number_line k t ≡ missing → group_in (k ∷ ks) t ≡ missing
+  unfolding group_in
+  group_stop e = rw e refl
 
-pub group_read : {text : List ℕ} {at : ℕ} {ks : List Key} {ok : Bool} {ns : List ℕ} {next : ℕ} → GroupRead text at ks ok ns next
-    → group_in ks (drop at text) ≡ cond ok (got ns (drop next text)) missing
-unfolding group_in
-group_read {ks = ks} {ns = ns} first = rw (append-nil ks, append-nil ns) at (first.rest [])
+  -- a field that is there, and the others behind it
+  module _ {n : ℕ} {rest : List ℕ} (e : number_line k t ≡ got n rest) where
+    pub group_on : {ns left : List ℕ} → group_in ks rest ≡ got ns left → group_in (k ∷ ks) t ≡ got (n ∷ ns) left
+    unfolding group_in
+    group_on f = rw (e, f) refl
+
+    pub group_past : group_in ks rest ≡ missing → group_in (k ∷ ks) t ≡ missing
+    unfolding group_in
+    group_past f = rw (e, f) refl
 
 -- ---- line after line
 
@@ -244,32 +294,31 @@ group_put {at} {ks} {ns} {buffer} g room = let p = g.put room in (p.0, p.1 ∙ p
 
 -- ---- group after group
 
--- the first `done` groups are read, and the others are still in the text from a place on
-pub record GroupsRead (ks : List Key) (count : ℕ) (text : List ℕ) (at done : ℕ) (gs : List (List ℕ)) (place : ℕ) : Type 0 where
+-- the first `done` groups are read, and the others are still in what is left of the text
+pub record GroupsRead (ks : List Key) (count : ℕ) (t : List ℕ) (done : ℕ) (gs : List (List ℕ)) (left : List ℕ) : Type 0 where
   pub within : done ≤ count
-  pub rest : groups_in ks count (drop at text) ≡ and_then (groups_in ks (count - done) (drop place text)) (λ hs t. got (gs ++ hs) t)
+  pub rest : groups_in ks count t ≡ before gs (groups_in ks (count - done) left)
 
-pub groups_start : (ks : List Key) (count : ℕ) (text : List ℕ) (at : ℕ) → GroupsRead ks count text at 0 [] at
-groups_start ks count text at =
+pub groups_start : (ks : List Key) (count : ℕ) (t : List ℕ) → GroupsRead ks count t 0 [] t
+groups_start ks count t =
     let all : count - 0 ≡ count = omega arith in
-    record { within = omega arith; rest = rw all (sym (before_none (groups_in ks count (drop at text)))) }
+    record { within = omega arith; rest = rw all (sym (before_none (groups_in ks count t))) }
 
-module _ {ks : List Key} {count : ℕ} {text : List ℕ} {at done : ℕ} {gs : List (List ℕ)} {place : ℕ} (m : GroupsRead ks count text at done gs place) where
-  -- one group more, as it was told
-  module _ (h : done < count) (ok : Bool) (g : List ℕ) (next : ℕ) (told : group_in ks (drop place text) ≡ cond ok (got g (drop next text)) missing) where
-    rest_is : groups_in ks count (drop at text) ≡ before gs (cond ok (before (g ∷ []) (groups_in ks (count - (done + 1)) (drop next text))) missing)
+module _ {ks : List Key} {count : ℕ} {t : List ℕ} {done : ℕ} {gs : List (List ℕ)} {left : List ℕ} (m : GroupsRead ks count t done gs left) where
+  -- one group more
+  module _ (h : done < count) where
+    next_first : groups_in ks count t ≡ before gs (and_then (group_in ks left) (λ g t. before (g ∷ []) (groups_in ks (count - (done + 1)) t)))
     unfolding groups_in
-    rest_is =
-        let more : count - done ≡ suc (count - (done + 1)) = omega arith in
-        m.rest ∙ rw (more, told) (ap (before gs) (then_told ok g (drop next text) _))
+    next_first = let more : count - done ≡ suc (count - (done + 1)) = omega arith in m.rest ∙ rw more refl
 
-    pub groups_on : ok ≡ true → GroupsRead ks count text at (done + 1) (gs ++ (g ∷ [])) next
-    groups_on e = record { within = omega arith; rest = rest_is ∙ rw e (before_both gs (g ∷ []) (groups_in ks (count - (done + 1)) (drop next text))) }
+    pub groups_on : {g rest : List ℕ} → group_in ks left ≡ got g rest → GroupsRead ks count t (done + 1) (gs ++ (g ∷ [])) rest
+    groups_on {g} {rest} e =
+        record { within = omega arith; rest = next_first ∙ rw e (before_both gs (g ∷ []) (groups_in ks (count - (done + 1)) rest)) }
 
-    pub groups_stop : ok ≡ false → groups_in ks count (drop at text) ≡ missing
-    groups_stop e = rest_is ∙ rw e refl
+    pub groups_stop : group_in ks left ≡ missing → groups_in ks count t ≡ missing
+    groups_stop e = next_first ∙ rw e refl
 
-  pub groups_end : count ≤ done → groups_in ks count (drop at text) ≡ got gs (drop place text)
+  pub groups_end : count ≤ done → groups_in ks count t ≡ got gs left
   unfolding groups_in
   groups_end h =
       let none : count - done ≡ 0 = omega arith in
@@ -277,14 +326,13 @@ module _ {ks : List Key} {count : ℕ} {text : List ℕ} {at done : ℕ} {gs : L
 
 -- ---- all of a text
 
-pub whole_told : {A : Type 0} (a : A) (ok : Bool) (next : ℕ) (text : List ℕ)
-    → whole (cond ok (got a (drop next text)) missing) ≡ cond (ok && leb (length text) next) (got a []) missing
-whole_told a false next text = refl
-whole_told a true next text = by_rest (drop next text) (length-drop next text)
-  where
-    by_rest : (t : List ℕ) → length t ≡ length text - next → whole (got a t) ≡ cond (leb (length text) next) (got a []) missing
-    by_rest [] e = rw (le-leb (length text) next (omega arith)) refl
-    by_rest (b ∷ t) e = rw (lt-leb (length text) next (omega arith)) refl
+pub whole_end : {A : Type 0} (a : A) (rest : List ℕ) → length rest ≡ 0 → whole (got a rest) ≡ got a []
+whole_end a [] h = refl
+whole_end a (b ∷ rest) h = absurd (omega arith)
+
+pub whole_more : {A : Type 0} (a : A) (rest : List ℕ) → 1 ≤ length rest → whole (got a rest) ≡ missing
+whole_more a [] h = absurd (omega arith)
+whole_more a (b ∷ rest) h = refl
 
 pub whole_taken : {A : Type 0} (x : Got A) (a : A) (rest : List ℕ) → whole x ≡ got a rest → (x ≡ got a []) × (rest ≡ [])
 whole_taken (got b []) a rest e = let g = got_injective e in (rw g.0 refl, sym g.1)

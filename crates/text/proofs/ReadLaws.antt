@@ -1,20 +1,21 @@
 -- The laws of what is read: all that the crates above use of `specs/Fields`, whose definitions they leave shut.
 use mathlib.Core.Path.{◌≡◌, refl, sym, ap, ap₂, ◌∙◌}
-use mathlib.Core.Bool.{Bool, true, false, ◌&&◌, and-false, cond, false≢true}
+use mathlib.Core.Bool.{Bool, true, false, not, ◌&&◌, and-false, cond, false≢true}
 use mathlib.Core.List.{List, [], ◌∷◌, ◌++◌, append_assoc}
-use Prim.Native.Nat.{ℕ, suc, ◌+◌, ◌/◌, ◌%◌, ◌^◌, ◌≤◌, ◌<◌}
+use Prim.Native.Nat.{ℕ, zero, suc, ◌+◌, ◌/◌, ◌%◌, ◌^◌, ◌≤◌, ◌<◌}
 use native.Mathlib.Decide.{dec_lt}
 use native.Mathlib.Omega.{arith}
-use lib.Dec.{leb, ltb, eqb}
-use lib.ListN.{length, get_or, take, drop, length-append, length-drop}
+use lib.Dec.{leb, ltb, eqb, eqb-zero-suc, eqb-suc-zero, eqb-suc-suc}
+use lib.ListN.{length, get_or, take, drop, length-append}
 use lib.Seq.{take_at, drop-append_seam, length-take-le}
 use borrow.Author.Tests.{lt-ltb, le-ltb, le-leb, eq-eqb, ne_eqb, ltb-true, leb-true, eqb-true}
 use Rattle.text.specs.Numbers.{digits, decimal, hexadecimal}
 use Rattle.text.specs.Lines.{line}
-use Rattle.text.specs.Fields.{line_length, starts_with, longest_line, has_line, LineRead, line_value, is_word, is_decimal, are_digits, number_spelt, number_in, bits_in, field_in, is_number, value_in}
-use Rattle.text.specs.declared.fields.Line.{Line}
-use Rattle.text.specs.declared.numbers.Number.{Number}
-use Rattle.text.specs.declared.numbers.Number.TheVariants.{Is, Malformed}
+use Rattle.text.specs.Fields.{line_length, starts_with, longest_line, has_line, line_value, is_word, is_decimal, are_digits, number_spelt, number_in, bits_in, field_in, is_number, value_in}
+use Rattle.std.specs.Prelude.{Option, Some, None, ◌==◌, min, position}
+use Rattle.std.specs.List.{position_or_len}
+use Rattle.std.proofs.lemmas.Option.{none-some}
+use lib.Pointwise.{pointwise}
 use Rattle.text.proofs.Digits.{decimal_small, decimal_large, decimal_induction, decimal_is_digits}
 use Rattle.text.proofs.Laws.{length_line, decimal_not_empty, decimal_no_leading_zero}
 use Rattle.text.proofs.Reading.{digit_ten, number_last, both, decimal_is, decimal_whole, put_are_digits, digits_no_newline, bits_below, hexadecimal_again}
@@ -51,17 +52,6 @@ module _ (key text : List ℕ) (there : has_line key text ≡ true) where
   pub line_at_most : suc (line_length text) ≤ 64
   line_at_most = ltb-true (line_length text) longest_line lengths.1
 
-  pub key_within : length key ≤ line_length text
-  key_within =
-      omega (arith, starts_within key (take (line_length text) text) parts.1, length-take-le (line_length text) text (omega (arith, line_within)))
-
-  -- the line is its key and its value
-  pub line_parts : line_length text ≡ length key + length (line_value key text)
-  unfolding line_value
-  line_parts =
-      let whole : length (take (line_length text) text) ≡ line_length text = length-take-le (line_length text) text (omega (arith, line_within)) in
-      rw there (omega (arith, key_within, length-drop (length key) (take (line_length text) text)))
-
 -- and the text is that line with what follows it
 starts_is : (key text : List ℕ) → starts_with key text ≡ true → text ≡ key ++ drop (length key) text
 unfolding starts_with
@@ -89,22 +79,6 @@ line_whole key text there =
     ∙ ap (λ (l : List ℕ). l ++ (10 ∷ drop (suc (line_length text)) text)) (starts_is key (take (line_length text) text) (parts key text there).1)
     ∙ rw there (sym (append_assoc (key ++ drop (length key) (take (line_length text) text)) (10 ∷ []) (drop (suc (line_length text)) text)))
 
--- a value that is not empty is that of a line that is there
-pub value_has : (key text : List ℕ) → 1 ≤ length (line_value key text) → has_line key text ≡ true
-unfolding line_value
-value_has key text h = by_test (has_line key text) h
-  where
-    by_test : (b : Bool) → 1 ≤ length (cond b (drop (length key) (take (line_length text) text)) []) → b ≡ true
-    by_test true h = refl
-    by_test false h = absurd (omega arith)
-
--- so its length tells where the line ends
-pub value_after : (key text : List ℕ) (at : ℕ) {value : List ℕ} → value ≡ line_value key (drop at text) → 1 ≤ length value
-    → (at + (length key + length value + 1) ≡ at + suc (line_length (drop at text))) × (at + suc (line_length (drop at text)) ≤ length text)
-value_after key text at e h =
-    let there = value_has key (drop at text) (omega (arith, ap length e)) in
-    (omega (arith, line_parts key (drop at text) there, ap length e), omega (arith, line_within key (drop at text) there, length-drop at text))
-
 -- a value of another length is not the word
 pub other_length : (word value : List ℕ) → (length word ≡ length value → ⊥) → is_word word value ≡ false
 unfolding is_word
@@ -123,9 +97,92 @@ pub line_too_long : (key text : List ℕ) → longest_line ≤ line_length text 
 unfolding has_line
 line_too_long key text h = rw (le-ltb (line_length text) longest_line h, and-false)
 
--- the place after a line that was found
-pub line_after : (key text : List ℕ) (at : ℕ) {r : Line} → LineRead key text at r → r.ok ≡ true → r.next ≡ at + suc (line_length (drop at text))
-line_after key text at told e = rw (sym told.ok ∙ e) at told.next
+-- ---- a line as it is looked for
+
+some_is : {m n : ℕ} → Some m ≡ Some n → m ≡ n
+some_is e = cc
+
+-- no more bytes are looked at than a line has
+abbrev pub window : List ℕ → ℕ
+window t = min (length t) longest_line
+
+newline_within : (n : ℕ) (t : List ℕ) → n ≤ length t → position_or_len (λ b. b == 10) (take n t) ≡ min n (line_length t)
+unfolding line_length
+newline_within zero t h = omega arith
+newline_within (suc n) [] h = absurd (omega arith)
+newline_within (suc n) (b ∷ t) h = by_test (eqb b 10) (newline_within n t (omega arith))
+  where
+    by_test : (x : Bool) → position_or_len (λ b. b == 10) (take n t) ≡ min n (line_length t)
+        → cond (not x) (1 + position_or_len (λ b. b == 10) (take n t)) 0 ≡ min (suc n) (cond x 0 (suc (line_length t)))
+    by_test true e = omega arith
+    by_test false e = omega arith
+
+line_place : (t : List ℕ) → position (λ b. b == 10) (take (window t) t) ≡ cond (ltb (line_length t) (window t)) (Some (line_length t)) None
+line_place t = by_place (dec_lt (line_length t) (window t))
+  where
+    first : position_or_len (λ b. b == 10) (take (window t) t) ≡ min (window t) (line_length t)
+    first = newline_within (window t) t (omega arith)
+
+    all : length (take (window t) t) ≡ window t
+    all = length-take-le (window t) t (omega arith)
+
+    by_place : Dec (line_length t < window t) → position (λ b. b == 10) (take (window t) t) ≡ cond (ltb (line_length t) (window t)) (Some (line_length t)) None
+    by_place (yes h) =
+        let p : min (window t) (line_length t) ≡ line_length t = omega arith in
+        rw (first, all, p, lt-ltb (line_length t) (window t) h) refl
+    by_place (no h) =
+        let p : min (window t) (line_length t) ≡ window t = omega arith in
+        rw (first, all, p, le-ltb (line_length t) (window t) (omega arith), le-ltb (window t) (window t) (omega arith)) refl
+
+-- the newline is found where the text has a line's length
+pub newline_at : (t : List ℕ) {n : ℕ} → position (λ b. b == 10) (take (window t) t) ≡ Some n → (n ≡ line_length t) × (n < length t) × (n < longest_line)
+newline_at t {n} e = by_place (dec_lt (line_length t) (window t))
+  where
+    by_place : Dec (line_length t < window t) → (n ≡ line_length t) × (n < length t) × (n < longest_line)
+    by_place (yes h) =
+        let i : n ≡ line_length t = some_is (sym e ∙ line_place t ∙ rw (lt-ltb (line_length t) (window t) h) refl) in
+        (i, omega arith, omega arith)
+    by_place (no h) =
+        absurd (none-some n (sym (sym e ∙ line_place t ∙ rw (le-ltb (line_length t) (window t) (omega arith)) refl)))
+
+pub newline_nowhere : (key t : List ℕ) → position (λ b. b == 10) (take (window t) t) ≡ None → has_line key t ≡ false
+newline_nowhere key t e = by_place (dec_lt (line_length t) (length t)) (dec_lt (line_length t) longest_line)
+  where
+    by_place : Dec (line_length t < length t) → Dec (line_length t < longest_line) → has_line key t ≡ false
+    by_place (no h) d = no_line key t (omega arith)
+    by_place (yes h) (no g) = line_too_long key t (omega arith)
+    by_place (yes h) (yes g) =
+        absurd (none-some (line_length t) (sym e ∙ line_place t ∙ rw (lt-ltb (line_length t) (window t) (omega arith)) refl))
+
+swapped : (a b : ℕ) → eqb a b ≡ eqb b a
+swapped a b = by_test (eqb a b) (eqb b a) refl refl
+  where
+    by_test : (s t : Bool) → eqb a b ≡ s → eqb b a ≡ t → eqb a b ≡ eqb b a
+    by_test true t e f = e ∙ sym (eq-eqb b a (sym (eqb-true a b e)))
+    by_test false true e f = absurd (false≢true (sym e ∙ eq-eqb a b (sym (eqb-true b a f))))
+    by_test false false e f = e ∙ sym f
+
+-- a prefix, compared byte by byte
+pub starts_pointwise : (key text : List ℕ) → starts_with key text ≡ pointwise eqb (take (length key) text) key
+unfolding starts_with
+starts_pointwise [] text = refl
+starts_pointwise (k ∷ key) [] = refl
+starts_pointwise (k ∷ key) (b ∷ text) = rw (swapped k b, starts_pointwise key text) refl
+
+-- and a word, as two slices are
+pub word_pointwise : (word value : List ℕ) → is_word word value ≡ pointwise eqb value word
+unfolding starts_with is_word
+word_pointwise [] [] = refl
+word_pointwise [] (b ∷ value) = rw (eqb-zero-suc (length value)) refl
+word_pointwise (k ∷ word) [] = rw (eqb-suc-zero (length word)) refl
+word_pointwise (k ∷ word) (b ∷ value) =
+    rw (eqb-suc-suc (length word) (length value), swapped k b, ← word_pointwise word value)
+    (passed (eqb (length word) (length value)) (eqb b k) (starts_with word value))
+  where
+    passed : (x y z : Bool) → x && (y && z) ≡ y && (x && z)
+    passed true y z = refl
+    passed false true z = refl
+    passed false false z = refl
 
 -- ---- a line that was put
 
@@ -181,7 +238,7 @@ module _ (key value rest : List ℕ) (k : line_length key ≡ length key) (v : l
 -- ---- numbers
 
 -- what a test lets pass
-chosen : (t : Bool) (m n : ℕ) → cond t (Is m) Malformed ≡ Is n → (t ≡ true) × (m ≡ n)
+chosen : (t : Bool) (m n : ℕ) → cond t (Some m) None ≡ Some n → (t ≡ true) × (m ≡ n)
 chosen true m n e = (refl, cc)
 chosen false m n e = let z : ◌≡◌ {A = ℕ} 0 1 = cc in absurd (omega arith)
 
@@ -210,14 +267,14 @@ decimal_number =
     ∙ omega (arith, p, digit_ten (48 + n % 10) (omega arith) (omega arith)))
 
 -- a number that is put is read, where the field can hold it
-pub number_read : (most n : ℕ) → n ≤ most → number_in most (decimal n) ≡ Is n
+pub number_read : (most n : ℕ) → n ≤ most → number_in most (decimal n) ≡ Some n
 unfolding number_in
 number_read most n h =
     let t : is_decimal (decimal n) ≡ true = decimal_is (decimal n) (decimal_not_empty n) (first_not_zero n) ∙ decimal_are_digits n in
     rw (t, decimal_number n, le-leb n most h)
 
 -- and what is read is that number as it is put
-pub number_put : (most : ℕ) (ds : List ℕ) (n : ℕ) → number_in most ds ≡ Is n → (ds ≡ decimal n) × (n ≤ most)
+pub number_put : (most : ℕ) (ds : List ℕ) (n : ℕ) → number_in most ds ≡ Some n → (ds ≡ decimal n) × (n ≤ most)
 unfolding number_in
 number_put most ds n e =
     let c = chosen (is_decimal ds && leb (number_spelt 10 0 ds) most) (number_spelt 10 0 ds) n e in
@@ -225,7 +282,7 @@ number_put most ds n e =
     (decimal_whole ds t.0 ∙ ap decimal c.1, rw c.1 at (leb-true (number_spelt 10 0 ds) most t.1))
 
 -- the same of a float's bits
-pub bits_put : (ds : List ℕ) (n : ℕ) → bits_in ds ≡ Is n → (ds ≡ hexadecimal 8 n) × (n < 2 ^ 32)
+pub bits_put : (ds : List ℕ) (n : ℕ) → bits_in ds ≡ Some n → (ds ≡ hexadecimal 8 n) × (n < 2 ^ 32)
 unfolding bits_in hexadecimal digits
 bits_put ds n e =
     let c = chosen (eqb (length ds) 8 && are_digits 16 ds) (number_spelt 16 0 ds) n e in
@@ -237,36 +294,36 @@ bits_put ds n e =
 
 -- a number that is there, and one that is not
 module _ (n : ℕ) where
-  pub number_is : is_number (Is n) ≡ true
+  pub number_is : is_number (Some n) ≡ true
   unfolding is_number
   number_is = refl
 
-  pub number_value : value_in (Is n) ≡ n
+  pub number_value : value_in (Some n) ≡ n
   unfolding value_in
   number_value = refl
 
-pub no_number : is_number Malformed ≡ false
+pub no_number : is_number None ≡ false
 unfolding is_number
 no_number = refl
 
 pub field_read : (key rest : List ℕ) (most n : ℕ) → line_length key ≡ length key → length key + length (decimal n) < longest_line → n ≤ most
-    → field_in key most (line key (decimal n) ++ rest) ≡ Is n
+    → field_in key most (line key (decimal n) ++ rest) ≡ Some n
 unfolding field_in
 field_read key rest most n k h g =
     let v = decimal_no_newline n in
     rw (line_there key (decimal n) rest k v h, value_there key (decimal n) rest k v h) (number_read most n g)
 
-held : (t : Bool) (m : Number) (n : ℕ) → cond t m Malformed ≡ Is n → (t ≡ true) × (m ≡ Is n)
+held : (t : Bool) (m : Option ℕ) (n : ℕ) → cond t m None ≡ Some n → (t ≡ true) × (m ≡ Some n)
 held true m n e = (refl, e)
 held false m n e = let z : ◌≡◌ {A = ℕ} 0 1 = cc in absurd (omega arith)
 
-at_most : (most : ℕ) (m : Number) → ((n : ℕ) → m ≡ Is n → n ≤ most) → value_in m ≤ most
+at_most : (most : ℕ) (m : Option ℕ) → ((n : ℕ) → m ≡ Some n → n ≤ most) → value_in m ≤ most
 unfolding value_in
-at_most most (Is n) f = f n refl
-at_most most Malformed f = omega arith
+at_most most (Some n) f = f n refl
+at_most most None f = omega arith
 
 module _ (key : List ℕ) (most : ℕ) (text : List ℕ) where
-  pub field_put : (n : ℕ) → field_in key most text ≡ Is n → (has_line key text ≡ true) × (line_value key text ≡ decimal n) × (n ≤ most)
+  pub field_put : (n : ℕ) → field_in key most text ≡ Some n → (has_line key text ≡ true) × (line_value key text ≡ decimal n) × (n ≤ most)
   unfolding field_in
   field_put n e =
       let h = held (has_line key text) (number_in most (line_value key text)) n e in
@@ -274,7 +331,7 @@ module _ (key : List ℕ) (most : ℕ) (text : List ℕ) where
       (h.0, p.0, p.1)
 
   -- the text is that line as it is put, with what follows it
-  pub field_whole : (n : ℕ) → field_in key most text ≡ Is n → text ≡ line key (decimal n) ++ drop (suc (line_length text)) text
+  pub field_whole : (n : ℕ) → field_in key most text ≡ Some n → text ≡ line key (decimal n) ++ drop (suc (line_length text)) text
   field_whole n e =
       let p = field_put n e in
       line_whole key text p.0 ∙ ap (λ (v : List ℕ). line key v ++ drop (suc (line_length text)) text) p.1

@@ -8,11 +8,10 @@ use native.Mathlib.Decide.{dec_lt, dec_le}
 use native.Mathlib.Omega.{arith}
 use lib.Dec.{leb, ltb, eqb}
 use lib.ListN.{length, get_or}
-use borrow.Author.Tests.{lt-ltb, le-ltb, le-leb, lt-leb, eq-eqb, ne_eqb, ltb-true, eqb-false, not-true}
+use borrow.Author.Tests.{lt-ltb, le-ltb, le-leb, lt-leb, eq-eqb, ne_eqb, ltb-true, eqb-true, eqb-false, not-true}
 use Rattle.text.specs.Numbers.{digit, digits, decimal}
 use Rattle.text.specs.Fields.{line_length, digit_in, are_digits, number_spelt, is_decimal, number_in, bits_in}
-use Rattle.text.specs.declared.numbers.Number.{Number}
-use Rattle.text.specs.declared.numbers.Number.TheVariants.{Is, Malformed}
+use Rattle.std.specs.Prelude.{Option, Some, None}
 use Rattle.text.proofs.Digits.{decimal_small, decimal_large}
 
 -- ---- one digit
@@ -68,6 +67,13 @@ read_digit d h = by_size (dec_lt d 10)
 
 -- ---- several digits
 
+-- what a test for no byte tells
+pub none_there : (ds : List ℕ) {b : Bool} → b ≡ eqb (length ds) 0 → b ≡ true → length ds ≡ 0
+none_there ds e t = eqb-true (length ds) 0 (sym e ∙ t)
+
+pub some_there : (ds : List ℕ) {b : Bool} → b ≡ eqb (length ds) 0 → b ≡ false → 1 ≤ length ds
+some_there ds e f = let n = eqb-false (length ds) 0 (sym e ∙ f) in omega arith
+
 pub both : (x y : Bool) → x && y ≡ true → (x ≡ true) × (y ≡ true)
 both x y e = (and-eq-true_iff x y).0 e
 
@@ -103,15 +109,15 @@ below_power b a (d ∷ ds) e =
 -- ---- a number of at most a bound
 
 -- what `read_digits` ensures, with digits before these that stand for a
-unfoldable pub within_in : (base most a : ℕ) → List ℕ → Number
-within_in base most a ds = cond (are_digits base ds && leb (number_spelt base a ds) most) (Is (number_spelt base a ds)) Malformed
+unfoldable pub within_in : (base most a : ℕ) → List ℕ → Option ℕ
+within_in base most a ds = cond (are_digits base ds && leb (number_spelt base a ds) most) (Some (number_spelt base a ds)) None
 
 module _ (b most a : ℕ) where
-  pub within_end : a ≤ most → within_in b most a [] ≡ Is a
+  pub within_end : a ≤ most → within_in b most a [] ≡ Some a
   unfolding within_in are_digits number_spelt
   within_end h = rw (le-leb a most h)
 
-  pub within_over : (ds : List ℕ) → 0 < b → most < a → within_in b most a ds ≡ Malformed
+  pub within_over : (ds : List ℕ) → 0 < b → most < a → within_in b most a ds ≡ None
   unfolding within_in
   within_over ds p h = rw (lt-leb (number_spelt b a ds) most (omega (arith, at_least b a ds p)), and-false)
 
@@ -119,7 +125,7 @@ module _ (b most a : ℕ) where
   unfolding within_in are_digits number_spelt
   within_next d ds h = rw (lt-ltb (digit_in d) b h)
 
-  pub within_none : (d : ℕ) (ds : List ℕ) → b ≤ digit_in d → within_in b most a (d ∷ ds) ≡ Malformed
+  pub within_none : (d : ℕ) (ds : List ℕ) → b ≤ digit_in d → within_in b most a (d ∷ ds) ≡ None
   unfolding within_in are_digits
   within_none d ds h = rw (le-ltb (digit_in d) b h)
 
@@ -135,12 +141,12 @@ module _ (most : ℕ) where
   unfolding within_in number_in
   number_within ds h z = rw (decimal_is ds h z)
 
-  pub number_empty : (ds : List ℕ) → length ds ≡ 0 → number_in most ds ≡ Malformed
+  pub number_empty : (ds : List ℕ) → length ds ≡ 0 → number_in most ds ≡ None
   unfolding number_in is_decimal
   number_empty [] h = refl
   number_empty (d ∷ ds) h = absurd (omega arith)
 
-  pub number_leading : (ds : List ℕ) → 1 < length ds → get_or ds 0 0 ≡ 48 → number_in most ds ≡ Malformed
+  pub number_leading : (ds : List ℕ) → 1 < length ds → get_or ds 0 0 ≡ 48 → number_in most ds ≡ None
   unfolding number_in is_decimal
   number_leading [] h z = absurd (omega arith)
   number_leading (d ∷ []) h z = absurd (omega arith)
@@ -155,7 +161,7 @@ unfolding within_in bits_in
 bits_within ds h = rw (eq-eqb (length ds) 8 h) (by_digits (are_digits 16 ds) refl)
   where
     by_digits : (t : Bool) → are_digits 16 ds ≡ t
-        → cond (t && leb (number_spelt 16 0 ds) 0xffff_ffff) (Is (number_spelt 16 0 ds)) Malformed ≡ cond t (Is (number_spelt 16 0 ds)) Malformed
+        → cond (t && leb (number_spelt 16 0 ds) 0xffff_ffff) (Some (number_spelt 16 0 ds)) None ≡ cond t (Some (number_spelt 16 0 ds)) None
     by_digits true e = rw (le-leb (number_spelt 16 0 ds) 0xffff_ffff (omega (arith, bits_below ds h e)))
     by_digits false e = refl
 

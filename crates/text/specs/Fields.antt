@@ -1,12 +1,6 @@
 -- Document 01, "Call texts": what stands in a line of text, and which number it spells.
-use Rattle.std.specs.Prelude.{ℕ, zero, suc, ◌+◌, ◌-◌, ◌*◌, ◌≡◌, Bool, true, false, not, ◌&&◌, cond, List, [], ◌∷◌, leb, ltb, eqb, pos, negsuc, length, take, drop}
+use Rattle.std.specs.Prelude.{ℤ, Option, Some, None, ℕ, zero, suc, ◌+◌, ◌-◌, ◌*◌, Bool, true, false, not, ◌&&◌, cond, List, [], ◌∷◌, leb, ltb, eqb, pos, negsuc, length, take, drop}
 use Prim.Native.Char.{code}
-use Rattle.text.specs.declared.fields.Field.{Field}
-use Rattle.text.specs.declared.fields.Line.{Line}
-use Rattle.text.specs.declared.numbers.Number.{Number}
-use Rattle.text.specs.declared.numbers.Number.TheVariants.{Is, Malformed}
-use Rattle.text.specs.declared.numbers.Signed.{Signed}
-use Rattle.text.specs.declared.numbers.Signed.TheVariants as signed
 
 -- ---- lines
 
@@ -30,11 +24,6 @@ longest_line = 64
 unfoldable pub has_line : List ℕ → List ℕ → Bool
 has_line key text =
     ltb (line_length text) (length text) && leb (suc (line_length text)) longest_line && starts_with key (take (line_length text) text)
-
--- what is told of the line at a place: whether it has that key, and the place after it, or the place itself where it has not
-pub record LineRead (key text : List ℕ) (at : ℕ) (r : Line) : Type 0 where
-  pub ok : r.ok ≡ has_line key (drop at text)
-  pub next : r.next ≡ cond (has_line key (drop at text)) (at + suc (line_length (drop at text))) at
 
 -- "The library hands back a line's value as the part of the caller's text after the equals sign"
 unfoldable pub line_value : List ℕ → List ℕ → List ℕ
@@ -68,47 +57,41 @@ is_decimal (d ∷ []) = are_digits 10 (d ∷ [])
 is_decimal (d ∷ e ∷ ds) = not (eqb d (code "0")) && are_digits 10 (d ∷ e ∷ ds)
 
 -- "A number that its field's width can't hold is malformed": the most that the field holds, and its bytes
-unfoldable pub number_in : ℕ → List ℕ → Number
-number_in most ds = cond (is_decimal ds && leb (number_spelt 10 0 ds) most) (Is (number_spelt 10 0 ds)) Malformed
+unfoldable pub number_in : ℕ → List ℕ → Option ℕ
+number_in most ds = cond (is_decimal ds && leb (number_spelt 10 0 ds) most) (Some (number_spelt 10 0 ds)) None
 
 -- the number after a minus: "`-0` is malformed"
-unfoldable pub minus : Number → Signed
-minus (Is zero) = signed.Malformed
-minus (Is (suc n)) = signed.Is (negsuc n)
-minus Malformed = signed.Malformed
+unfoldable pub minus : Option ℕ → Option ℤ
+minus (Some zero) = None
+minus (Some (suc n)) = Some (negsuc n)
+minus None = None
 
 -- a number with no minus
-unfoldable pub plus : Number → Signed
-plus (Is n) = signed.Is (pos n)
-plus Malformed = signed.Malformed
+unfoldable pub plus : Option ℕ → Option ℤ
+plus (Some n) = Some (pos n)
+plus None = None
 
 -- "only units may carry a minus", "units: 16, signed": from -32768 to 32767
-unfoldable pub signed_in : List ℕ → Signed
-signed_in [] = signed.Malformed
+unfoldable pub signed_in : List ℕ → Option ℤ
+signed_in [] = None
 signed_in (d ∷ ds) = cond (eqb d (code "-")) (minus (number_in 32768 ds)) (plus (number_in 32767 (d ∷ ds)))
 
 -- "the float's bits as eight upper-case hexadecimal digits"
-unfoldable pub bits_in : List ℕ → Number
-bits_in ds = cond (eqb (length ds) 8 && are_digits 16 ds) (Is (number_spelt 16 0 ds)) Malformed
+unfoldable pub bits_in : List ℕ → Option ℕ
+bits_in ds = cond (eqb (length ds) 8 && are_digits 16 ds) (Some (number_spelt 16 0 ds)) None
 
 -- ---- a line with a number
 
 -- whether there is a number
-unfoldable pub is_number : Number → Bool
-is_number (Is n) = true
-is_number Malformed = false
+unfoldable pub is_number : Option ℕ → Bool
+is_number (Some n) = true
+is_number None = false
 
 -- and which one, or 0
-unfoldable pub value_in : Number → ℕ
-value_in (Is n) = n
-value_in Malformed = 0
+unfoldable pub value_in : Option ℕ → ℕ
+value_in (Some n) = n
+value_in None = 0
 
 -- the number that a text's first line holds after its key
-unfoldable pub field_in : List ℕ → ℕ → List ℕ → Number
-field_in key most text = cond (has_line key text) (number_in most (line_value key text)) Malformed
-
--- the same of a line with a number, and the number, or 0 where there is none
-pub record FieldRead (key : List ℕ) (most : ℕ) (text : List ℕ) (at : ℕ) (r : Field) : Type 0 where
-  pub ok : r.ok ≡ is_number (field_in key most (drop at text))
-  pub value : r.value ≡ value_in (field_in key most (drop at text))
-  pub next : r.next ≡ cond (is_number (field_in key most (drop at text))) (at + suc (line_length (drop at text))) at
+unfoldable pub field_in : List ℕ → ℕ → List ℕ → Option ℕ
+field_in key most text = cond (has_line key text) (number_in most (line_value key text)) None

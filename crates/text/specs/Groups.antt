@@ -1,8 +1,9 @@
 -- Document 02, T-08: "`key=value` lines in a fixed order": groups of numbers, a line each, written and read by the same keys.
-use Rattle.std.specs.Prelude.{ℕ, zero, suc, cond, List, [], ◌∷◌, ◌++◌, drop}
+use Rattle.std.specs.Prelude.{ℕ, zero, suc, ◌≡◌, cond, Option, MatchOption, List, [], ◌∷◌, ◌++◌, drop}
 use Rattle.text.specs.Numbers.{decimal}
 use Rattle.text.specs.Lines.{line}
-use Rattle.text.specs.Fields.{line_length, field_in, is_number, value_in}
+use Rattle.text.specs.declared.fields.Lines.{Lines}
+use Rattle.text.specs.Fields.{line_length, has_line, line_value, field_in, is_number, value_in}
 
 -- a line's key, which is written with its equals sign, and the most that its number is: "A number that its field's width can't hold is malformed"
 pub record Key : Type 0 where
@@ -40,11 +41,19 @@ whole (got a []) = got a []
 whole (got a (b ∷ rest)) = missing
 whole missing = missing
 
+-- a line with a value
+unfoldable pub value_line : (key : List ℕ) → List ℕ → Got (List ℕ)
+value_line key t = cond (has_line key t) (got (line_value key t) (drop (suc (line_length t)) t)) missing
+
 -- a line with a number
 unfoldable pub number_line : Key → List ℕ → Got ℕ
 number_line k t =
     let n = field_in k.name k.most t in
     cond (is_number n) (got (value_in n) (drop (suc (line_length t)) t)) missing
+
+-- what is told of a reading: the thing that the text begins with, and then what follows it is left; or it is missing, and nothing is read
+abbrev pub Reads : {A : Type 0} → Got A → Option A → (before after : Lines) → Type 0
+Reads g r before after = MatchOption r ((g ≡ missing) × (after ≡ before)) (λ a. g ≡ got a after.rest.now)
 
 -- a group
 unfoldable pub group_in : List Key → List ℕ → Got (List ℕ)

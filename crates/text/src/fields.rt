@@ -1,125 +1,48 @@
 // Lines read from a lent text.
-ghost use Rattle.std.specs.Prelude.{◌≡◌, ◌≤◌, ◌<◌, drop};
-ghost use Rattle.text.specs.Fields.{line_length as line_length_of, starts_with as starts_with_of, longest_line, LineRead, line_value as line_value_of, is_word as is_word_of, FieldRead};
+ghost use Rattle.std.specs.Prelude.{◌≡◌, ◌==◌, MatchOption, position, take, min, length};
+ghost use Rattle.text.specs.Fields.{longest_line};
+ghost use Rattle.text.specs.Groups.{got, missing, value_line, number_line, Reads};
 
-use crate::numbers::{Number, read_number};
+use crate::numbers::read_number;
 
 // The most bytes of a line, with its newline.
 const LONGEST_LINE: usize = 64;
 
-// Whether a line is there, and the place after it, or the place asked for where there is none.
+// What is left to read of a text, line after line.
 #[derive(Clone, Copy)]
-pub struct Line {
-    pub ok: bool,
-    pub next: usize,
+pub struct Lines<'a> {
+    pub rest: &'a [u8],
 }
 
-// The same of a line that holds a number, with the number, or 0 where there is none.
-#[derive(Clone, Copy)]
-pub struct Field {
-    pub ok: bool,
-    pub value: u64,
-    pub next: usize,
-}
-
-// The bytes before the first newline; no more of them are looked at than a line has.
-fn line_length(text: &[u8]) -> usize
-    ensures { (result < longest_line → result ≡ line_length_of text.now) × (longest_line ≤ result → longest_line ≤ line_length_of text.now) }
+// The place of the first newline; no more bytes are looked at than a line has.
+fn line_end(text: &[u8]) -> Option<usize>
+    ensures { result ≡ position (λ b. b == 10) (take (min (length text.now) longest_line) text.now) }
 {
-    let mut i = 0;
-    while i < LONGEST_LINE {
-        if i == text.len() {
-            return i;
-        }
-        if text[i] == b'\n' {
-            return i;
-        }
-        i += 1;
-    }
-    i
+    text[..text.len().min(LONGEST_LINE)]
+        .iter()
+        .position(|&byte| byte == b'\n')
 }
 
-pub fn starts_with(key: &[u8], text: &[u8]) -> bool
-    ensures { result ≡ starts_with_of key.now text.now }
-{
-    let mut i = 0;
-    while i < key.len() {
-        if i == text.len() {
-            return false;
-        }
-        if key[i] != text[i] {
-            return false;
-        }
-        i += 1;
+impl<'a> Lines<'a> {
+    // The value of the next line, a part of the text, where it has that key; else nothing is read.
+    pub fn value(&mut self, key: &[u8]) -> Option<&'a [u8]>
+        ensures { MatchOption result ((value_line key.now self.old.rest.now ≡ missing) × (self.new ≡ self.old)) (λ v. value_line key.now self.old.rest.now ≡ got v.now self.new.rest.now) }
+    {
+        let rest = self.rest;
+        let end = line_end(rest)?;
+        let value = rest[..end].strip_prefix(key)?;
+        self.rest = &rest[end + 1..];
+        Some(value)
     }
-    true
-}
 
-pub fn is_word(word: &[u8], value: &[u8]) -> bool
-    ensures { result ≡ is_word_of word.now value.now }
-{
-    (word.len() == value.len()) & starts_with(word, value)
-}
-
-// The line at a place of a text, where it has that key.
-pub fn read_line(text: &[u8], at: usize, key: &[u8]) -> Line
-    ensures { LineRead key.now text.now at result }
-{
-    let none = Line {
-        ok: false,
-        next: at,
-    };
-    if text.len() <= at {
-        return none;
-    }
-    let rest = &text[at..];
-    let length = line_length(rest);
-    if length >= LONGEST_LINE {
-        return none;
-    }
-    // Without a newline the line is all of the rest.
-    if length >= rest.len() {
-        return none;
-    }
-    if starts_with(key, &rest[..length]) {
-        Line {
-            ok: true,
-            next: at + (length + 1),
-        }
-    } else {
-        none
-    }
-}
-
-// That line's value, a part of the text lent.
-pub fn line_value<'a>(text: &'a [u8], at: usize, key: &[u8]) -> &'a [u8]
-    ensures { result.now ≡ line_value_of key.now (drop at text.now) }
-{
-    let line = read_line(text, at, key);
-    if line.ok {
-        let start = at + key.len();
-        let end = line.next - 1;
-        &text[start..end]
-    } else {
-        &text[..0]
-    }
-}
-
-// That line with a decimal number of at most `most`.
-pub fn read_field(text: &[u8], at: usize, key: &[u8], most: u64) -> Field
-    ensures { FieldRead key.now most text.now at result }
-{
-    let digits = line_value(text, at, key);
-    if let Number::Is(value) = read_number(digits, most) {
-        return Field {
-            ok: true,
-            value,
-            next: at + (key.len() + digits.len() + 1),
-        };
-    }
-    Field {
-        ok: false,
-        value: 0,
-        next: at,
+    // The number of the next line, where it has that key and a decimal number of at most `most`; else nothing is read.
+    pub fn number(&mut self, key: &[u8], most: u64) -> Option<u64>
+        ensures { Reads (number_line (record { name = key.now; most = most }) self.old.rest.now) result self.old self.new }
+    {
+        let mut lines = *self;
+        let digits = lines.value(key)?;
+        let number = read_number(digits, most)?;
+        *self = lines;
+        Some(number)
     }
 }

@@ -5,6 +5,6 @@ mod fields;
 mod lines;
 mod numbers;
 
-pub use fields::{Field, Line, is_word, line_value, read_field, read_line, starts_with};
+pub use fields::Lines;
 pub use lines::{put_bytes, put_decimal_line, put_hexadecimal_line};
-pub use numbers::{Number, Signed, decimal_length, read_bits, read_number, read_signed};
+pub use numbers::{decimal_length, read_bits, read_number, read_signed};

@@ -16,10 +16,9 @@ pub fn put_bytes(out: &mut [u8], at: usize, bytes: &[u8]) -> usize
     if out.len() - at < bytes.len() {
         return at;
     }
-    let mut i = 0;
-    while i < bytes.len() {
+    // Byte by byte: `copy_from_slice` would need the `memmove` of a host.
+    for i in 0..bytes.len() {
         out[at + i] = bytes[i];
-        i += 1;
     }
     at + bytes.len()
 }

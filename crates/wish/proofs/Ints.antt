@@ -34,7 +34,7 @@ module _ {a b : ℤ} (z : ℤ) (n : ℕ) (ea : a ≡ z) (eb : b ≡ pos n) (smal
   plain : SFits w64 (z -ℤ pos n)
   plain = record { sfits = omega (arith, mag_minus z n) }
 
-  pub minus_fits : SFits w64 (a -ℤ b)
+  minus_fits : SFits w64 (a -ℤ b)
   minus_fits = subst (SFits w64) (sym sum_is) plain
 
   pub minus_is : to_z w64 (of_z w64 (a -ℤ b)) ≡ z -ℤ pos n

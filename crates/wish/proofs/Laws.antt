@@ -13,20 +13,19 @@ use Rattle.wish.specs.Rounding.{rounded_times}
 use Rattle.wish.specs.Units.{lies_within, units_within, acceleration_units, target_units, units_of}
 use Rattle.wish.specs.Trimming.{smaller_of, trimmed_into, trimmed_to}
 use Rattle.wish.specs.Reading.{reading_of}
-use Rattle.wish.specs.declared.Converted.TheVariants.{Units, Outside}
-use Rattle.wish.specs.declared.Wish
-use Rattle.wish.specs.declared.Wish.TheVariants.{Acceleration, TargetSpeed, Hold}
+use Rattle.std.proofs.Common.{Some, None}
+use Rattle.wish.specs.declared.Wish.TheVariants.{Units, Acceleration, TargetSpeed, Hold}
 use Rattle.wish.proofs.Values.{within_size, within_size_from_0}
 use Rattle.wish.proofs.Trimming.{smaller_pos, smaller_left, smaller_right, not_above_right, below_both, neg_le_pos, not_below_low, inside_kept, above_high, below_low, ends_crossed, pos_minus, between, sum_between}
 use Rattle.wish.proofs.Quotients.{double_of_exact}
 
 -- ---- "whole units" and "hold (0 units)"; which units the two sorts of float have is in `Nearest`
 
-pub whole_units : (u : ℤ) (v : ℕ) → units_of (Wish.TheVariants.Units u) v ≡ Units u
+pub whole_units : (u : ℤ) (v : ℕ) → units_of (Units u) v ≡ Some u
 unfolding units_of
 whole_units u v = refl
 
-pub hold_units : (v : ℕ) → units_of Hold v ≡ Units (pos 0)
+pub hold_units : (v : ℕ) → units_of Hold v ≡ Some (pos 0)
 unfolding units_of
 hold_units v = refl
 
@@ -34,22 +33,22 @@ hold_units v = refl
 
 -- "An acceleration must lie from −16 to 16, .. ends included"
 pub acceleration_range : (s : Bool) (m : ℕ) (e : ℤ) (v : ℕ)
-    → units_of (Acceleration (fin s m e)) v ≡ cond (leb (m * up e) (16 * down e)) (Units (rounded_times 16 (fin s m e))) Outside
+    → units_of (Acceleration (fin s m e)) v ≡ cond (leb (m * up e) (16 * down e)) (Some (rounded_times 16 (fin s m e))) None
 unfolding units_of acceleration_units units_within
-acceleration_range s m e v = ap (λ (t : Bool). cond t (Units (rounded_times 16 (fin s m e))) Outside) (within_size 4 s m e)
+acceleration_range s m e v = ap (λ (t : Bool). cond t (Some (rounded_times 16 (fin s m e))) None) (within_size 4 s m e)
 
 -- "a speed from 0 to 64, ends included; .. negative zero counts as zero"
 pub target_range : (s : Bool) (m : ℕ) (e : ℤ) (v : ℕ)
-    → units_of (TargetSpeed (fin s m e)) v ≡ cond ((not s || eqb (m * up e) 0) && leb (m * up e) (64 * down e)) (Units (rounded_times 128 (fin s m e) -ℤ pos v)) Outside
+    → units_of (TargetSpeed (fin s m e)) v ≡ cond ((not s || eqb (m * up e) 0) && leb (m * up e) (64 * down e)) (Some (rounded_times 128 (fin s m e) -ℤ pos v)) None
 unfolding units_of target_units units_within
-target_range s m e v = ap (λ (t : Bool). cond t (Units (rounded_times 128 (fin s m e) -ℤ pos v)) Outside) (within_size_from_0 6 s m e)
+target_range s m e v = ap (λ (t : Bool). cond t (Some (rounded_times 128 (fin s m e) -ℤ pos v)) None) (within_size_from_0 6 s m e)
 
 -- "not-a-number and infinities are outside"
-pub no_number_outside : (v : ℕ) → (units_of (Acceleration nan) v ≡ Outside) × (units_of (TargetSpeed nan) v ≡ Outside)
+pub no_number_outside : (v : ℕ) → (units_of (Acceleration nan) v ≡ None) × (units_of (TargetSpeed nan) v ≡ None)
 unfolding units_of acceleration_units target_units units_within lies_within le
 no_number_outside v = (refl, refl)
 
-pub infinity_outside : (s : Bool) (v : ℕ) → (units_of (Acceleration (inf s)) v ≡ Outside) × (units_of (TargetSpeed (inf s)) v ≡ Outside)
+pub infinity_outside : (s : Bool) (v : ℕ) → (units_of (Acceleration (inf s)) v ≡ None) × (units_of (TargetSpeed (inf s)) v ≡ None)
 unfolding units_of acceleration_units target_units units_within lies_within le
 infinity_outside false v = (refl, refl)
 infinity_outside true v = (refl, refl)

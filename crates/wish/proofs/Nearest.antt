@@ -13,7 +13,7 @@ use lib.Ieee.{fin, up, down}
 use lib.Ieee.Fits.{down_pos}
 use Rattle.wish.specs.Rounding.{signed, rounded_size, rounded_times, away, NearestEven}
 use Rattle.wish.specs.Units.{units_of}
-use Rattle.wish.specs.declared.Converted.TheVariants.{Units, Outside}
+use Rattle.std.proofs.Common.{Some, None}
 use Rattle.wish.specs.declared.Wish.TheVariants.{Acceleration, TargetSpeed}
 use Rattle.wish.proofs.Rounding.{rounded_by}
 use Rattle.wish.proofs.Laws.{acceleration_range, target_range}
@@ -162,16 +162,16 @@ nearest_is_one n d D y z f g = by_sign n f g
     by_sign (negsuc n) f g = sym (neg_ℤ-neg_ℤ y) ∙ ap neg_ℤ (same (suc n) (neg_ℤ y) (neg_ℤ z) (turned f) (turned g)) ∙ neg_ℤ-neg_ℤ z
 
 -- ---- of every float that has units, in numbers alone
-never : {z : ℤ} → Outside ≡ Units z → ⊥
+never : {z : ℤ} → None ≡ Some z → ⊥
 never h = let q : ◌≡◌ {A = ℕ} 0 1 = cc in omega arith
 
-given : (t : Bool) (a z : ℤ) → cond t (Units a) Outside ≡ Units z → a ≡ z
+given : (t : Bool) (a z : ℤ) → cond t (Some a) None ≡ Some z → a ≡ z
 given true a z h = cc
 given false a z h = absurd (never h)
 
 module _ (s : Bool) (m : ℕ) (e : ℤ) (v : ℕ) (z : ℤ) where
   -- 16 times the acceleration: no whole number is nearer than the units, and they are even where another is as near
-  pub acceleration_nearest : units_of (Acceleration (fin s m e)) v ≡ Units z → let n = signed s (m * up e * 16) in
+  pub acceleration_nearest : units_of (Acceleration (fin s m e)) v ≡ Some z → let n = signed s (m * up e * 16) in
       ((k : ℤ) → nat_abs (z *ℤ pos (down e) -ℤ n) ≤ nat_abs (k *ℤ pos (down e) -ℤ n))
       × ((k : ℤ) → (k ≡ z → ⊥) → nat_abs (k *ℤ pos (down e) -ℤ n) ≡ nat_abs (z *ℤ pos (down e) -ℤ n) → nat_abs z % 2 ≡ 0)
   unfolding rounded_times
@@ -181,7 +181,7 @@ module _ (s : Bool) (m : ℕ) (e : ℤ) (v : ℕ) (z : ℤ) where
       (f.none_nearer, f.halves_to_even)
 
   -- 128 times the target speed, "then the present speed is subtracted": of the units with the speed added again
-  pub target_nearest : units_of (TargetSpeed (fin s m e)) v ≡ Units z → let n = signed s (m * up e * 128) in let y = z +ℤ pos v in
+  pub target_nearest : units_of (TargetSpeed (fin s m e)) v ≡ Some z → let n = signed s (m * up e * 128) in let y = z +ℤ pos v in
       ((k : ℤ) → nat_abs (y *ℤ pos (down e) -ℤ n) ≤ nat_abs (k *ℤ pos (down e) -ℤ n))
       × ((k : ℤ) → (k ≡ y → ⊥) → nat_abs (k *ℤ pos (down e) -ℤ n) ≡ nat_abs (y *ℤ pos (down e) -ℤ n) → nat_abs y % 2 ≡ 0)
   unfolding rounded_times

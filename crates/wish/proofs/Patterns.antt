@@ -12,7 +12,7 @@ use lib.Ieee.Fits.{down_pos}
 use lib.Ieee.Exact.{HasValue}
 use Rattle.wish.specs.Rounding.{signed, rounded_times}
 use Rattle.wish.specs.Units.{lies_within, units_within, acceleration_units, target_units, units_of}
-use Rattle.wish.specs.declared.Converted.TheVariants.{Units, Outside}
+use Rattle.std.proofs.Common.{Some, None}
 use Rattle.wish.specs.declared.Wish.TheVariants.{Acceleration, TargetSpeed}
 use Rattle.wish.proofs.Rounding.{rounded_none}
 use Rattle.wish.proofs.Values.{at_most_of_value, in_range, within_size_from_0, rounded_value}
@@ -50,18 +50,18 @@ module _ {x : Float} {s : Bool} {a c : ℕ} (t : Tiny x s a c) where
   rounds : (k : ℕ) → a * k * 2 < c → rounded_times k x ≡ signed s 0
   rounds k few = rounded_value k x s a c positive t.value ∙ ap (signed s) (rounded_none (a * k) c few)
 
-  tiny_acceleration : acceleration_units x ≡ Units (signed s 0)
+  tiny_acceleration : acceleration_units x ≡ Some (signed s 0)
   unfolding acceleration_units units_within
   tiny_acceleration =
       let f = t.few in
       let inside = in_range 4 x (at_most_of_value 16 x s a c positive t.value (omega arith)) in
-      rw inside (ap Units (rounds 16 (omega arith)))
+      rw inside (ap Some (rounds 16 (omega arith)))
 
-  tiny_target : (v : ℕ) → target_units x v ≡ cond (not s) (Units (signed s 0 -ℤ pos v)) Outside
+  tiny_target : (v : ℕ) → target_units x v ≡ cond (not s) (Some (signed s 0 -ℤ pos v)) None
   unfolding target_units units_within
   tiny_target v =
       let f = t.few in
-      ap₂ (λ (u : Bool) (z : ℤ). cond u (Units (z -ℤ pos v)) Outside) (not_from_0 x s a c t) (rounds 128 (omega arith))
+      ap₂ (λ (u : Bool) (z : ℤ). cond u (Some (z -ℤ pos v)) None) (not_from_0 x s a c t) (rounds 128 (omega arith))
 
 -- a pattern of a subnormal number: the exponent's field is 0, and not all of the rest
 module _ (bits : ℕ) (some : 0 < bits % 0x8000_0000) (small : bits % 0x8000_0000 < 0x80_0000) where

@@ -1,22 +1,19 @@
 -- The product of a float and a power of two is exact where it does not overflow: so the product of a float in its range is rounded as the exact product is. Assumes nothing.
 use mathlib.Core.Path.{◌≡◌, refl, sym, ap, ◌∙◌, subst}
-use Prim.Native.Nat.{ℕ, zero, suc, ◌+◌, ◌-◌, ◌*◌, ◌%◌, ◌^◌, ◌≤◌, ◌<◌, zero-le}
+use Prim.Native.Nat.{ℕ, zero, suc, ◌+◌, ◌-◌, ◌*◌, ◌%◌, ◌^◌, ◌≤◌, ◌<◌}
 use native.Mathlib.Nat.{le_refl, le_trans, le_of_eq, lt_of_le_of_lt, mul-one, one-mul, mul_comm, mul_assoc, mul_right_comm, mul-le-mul_right, mul-lt-mul_of_pos_right, lt_of_mul-lt-mul_right}
-use native.Mathlib.Omega.{arith}
 use mathlib.Core.Bool.{Bool, true, false, ◌&&◌, cond}
-use lib.IntN.{ℤ, pos, negsuc, ◌-ℤ◌}
-use lib.Signed.{mag}
-use lib.Dec.{T, leb, ltb, eqb, leb→le, ltb→lt, eqb→eq, lit<, lit≤}
+use lib.IntN.{ℤ, pos, negsuc}
+use lib.Dec.{T, leb, ltb, eqb, leb→le, ltb→lt, eqb→eq, lit<}
 use lib.Pow.{pow-add, pow_pos}
 use lib.Ieee.{Float, nan, inf, fin, Format, binary32, prec, emax, low, up, down, round, mul, fits, unlike}
 use lib.Ieee.Digits.{back}
 use lib.Ieee.Fits.{down_pos, and_l, and_r}
 use lib.Ieee.Exact.{HasValue, round_exact}
 use Rattle.wish.specs.Rounding.{signed, rounded_size, rounded_times}
-use Rattle.wish.specs.Units.{lies_within, units_within, acceleration_units, target_units, size_in}
-use Rattle.wish.specs.declared.Converted.TheVariants.{Units, Outside}
-use Rattle.wish.proofs.Ints.{mag_minus}
-use Rattle.wish.proofs.Values.{pow_le_back, AtMost, at_most_of_value, range, in_range, rounded_value, rounded_at_most}
+use Rattle.wish.specs.Units.{lies_within, units_within}
+use Rattle.std.proofs.Common.{Some, None}
+use Rattle.wish.proofs.Values.{pow_le_back, AtMost, at_most_of_value, range, in_range, rounded_value}
 
 -- ---- what a format's values are
 -- 2 ^ e is 2 ^ i smallest values, 2 ^ l of which make 1
@@ -109,40 +106,19 @@ module _ (n j : ℕ) (room : n * 2 ^ j ≤ 8192) where
       ∙ ap (λ (x : ℕ). signed s (rounded_size x (down e))) (mul-one (m * up e * 2 ^ j))
 
 -- ---- what a conversion needs
--- the test that picks the answer
-pub picked : (lo hi x : Float) (z : ℤ) (t : Bool) → lies_within lo hi x ≡ t → cond t (Units z) Outside ≡ units_within lo hi x z
+-- numbers that are alike where x lies in the range
+alike_within : (lo hi x : Float) (y z : ℤ) → (lies_within lo hi x ≡ true → y ≡ z) → units_within lo hi x y ≡ units_within lo hi x z
 unfolding units_within
-picked lo hi x z t e = sym (ap (λ (b : Bool). cond b (Units z) Outside) e)
+alike_within lo hi x y z f = go (lies_within lo hi x) f
+  where
+    go : (t : Bool) → (t ≡ true → y ≡ z) → cond t (Some y) None ≡ cond t (Some z) None
+    go true g = ap Some (g refl)
+    go false g = refl
 
 module _ (s : Bool) (a i k j : ℕ) (ends : a * 2 ^ i ≤ 2 ^ k) (room : 2 ^ k * 2 ^ j ≤ 8192)
-    (x : Float) (held : T (fits binary32 x)) (inside : lies_within (fin s a (pos i)) (fin false 1 (pos k)) x ≡ true) where
-  pub product_within : lies_within (fin true 1 (pos 13)) (fin false 1 (pos 13)) (mul binary32 x (fin false 1 (pos j))) ≡ true
-  product_within = in_range 13 (mul binary32 x (fin false 1 (pos j))) (at_most (2 ^ k) j room x held (range s a i k ends x inside))
+    (x : Float) (held : T (fits binary32 x)) where
+  pub product_within : lies_within (fin s a (pos i)) (fin false 1 (pos k)) x ≡ true → lies_within (fin true 1 (pos 13)) (fin false 1 (pos 13)) (mul binary32 x (fin false 1 (pos j))) ≡ true
+  product_within inside = in_range 13 (mul binary32 x (fin false 1 (pos j))) (at_most (2 ^ k) j room x held (range s a i k ends x inside))
 
-  pub product_rounded : rounded_times 1 (mul binary32 x (fin false 1 (pos j))) ≡ rounded_times (2 ^ j) x
-  product_rounded = rounded_alike (2 ^ k) j room x held (range s a i k ends x inside)
-
-  pub product_small : mag (rounded_times (2 ^ j) x) ≤ 8192
-  product_small = le_trans (rounded_at_most (2 ^ k) (2 ^ j) x (range s a i k ends x inside)) room
-
--- ---- how large the units of a float are
-small_within : (lo hi x : Float) (z : ℤ) (n : ℕ) → (lies_within lo hi x ≡ true → mag z ≤ n) → size_in (units_within lo hi x z) ≤ n
-unfolding units_within
-small_within lo hi x z n f = go (lies_within lo hi x) f
-  where
-    go : (t : Bool) → (t ≡ true → mag z ≤ n) → size_in (cond t (Units z) Outside) ≤ n
-    go true g = g refl
-    go false g = zero-le
-
-module _ (x : Float) (v : ℕ) where
-  pub acceleration_small : size_in (acceleration_units x) ≤ 32767 + v
-  unfolding acceleration_units
-  acceleration_small =
-      small_within (fin true 1 (pos 4)) (fin false 1 (pos 4)) x (rounded_times 16 x) (32767 + v)
-      (λ e. omega (arith, rounded_at_most 16 16 x (range true 1 4 4 (lit≤ tt) x e)))
-
-  pub target_small : size_in (target_units x v) ≤ 32767 + v
-  unfolding target_units
-  target_small =
-      small_within (fin false 0 (pos 0)) (fin false 1 (pos 6)) x (rounded_times 128 x -ℤ pos v) (32767 + v)
-      (λ e. omega (arith, mag_minus (rounded_times 128 x) v, rounded_at_most 64 128 x (range false 0 0 6 (lit≤ tt) x e)))
+  pub product_units : units_within (fin s a (pos i)) (fin false 1 (pos k)) x (rounded_times 1 (mul binary32 x (fin false 1 (pos j)))) ≡ units_within (fin s a (pos i)) (fin false 1 (pos k)) x (rounded_times (2 ^ j) x)
+  product_units = alike_within _ _ x _ _ (λ inside. rounded_alike (2 ^ k) j room x held (range s a i k ends x inside))

@@ -8,7 +8,8 @@ use borrow.Author.Tests.{ltb-true, ltb-false, le-ltb}
 use lib.Dec.{T, ltb, leb→le, le→leb, ltb→lt}
 use lib.IntN.{ℤ, pos, negsuc, neg_ℤ, ◌+ℤ◌, ◌-ℤ◌}
 use lib.Signed.{lt_z, ◌≤ℤ◌, ◌<ℤ◌, ≤ℤ_refl, <ℤ-≤ℤ_trans, le_z_yes, lt_z_yes, lt_z_no, clash_ℤ}
-use Rattle.wish.specs.Trimming.{smaller_of, trimmed_into}
+use Rattle.std.specs.Int.{int_min, int_max}
+use Rattle.wish.specs.Trimming.{smaller_of, trimmed_into, trimmed_to}
 
 -- ---- the order of the integers
 lt_le : {a b : ℤ} → a <ℤ b → a ≤ℤ b
@@ -116,6 +117,26 @@ module _ (k : ℕ) (high w : ℤ) where
 
   pub ends_crossed : high ≤ℤ low → trimmed_into low high w ≡ low
   ends_crossed h = capped_below (not_above_left high w h)
+
+-- ---- trimming by std's `min` and `max`
+larger : (a b : ℤ) → int_max a b ≡ cond (lt_z a b) b a
+larger a b = go (lt_z b a) (lt_z a b) refl refl
+  where
+    at_most : (x y : ℤ) → lt_z x y ≡ false → y ≤ℤ x
+    at_most x y e = lt_z_no (subst (λ (t : Bool). T (not t)) (sym e) tt)
+
+    go : (s t : Bool) → lt_z b a ≡ s → lt_z a b ≡ t → cond s a b ≡ cond t b a
+    go true true p q = clash_ℤ {a = b} {b = a} (lt_z_yes (subst T (sym p) tt)) (lt_le (lt_z_yes (subst T (sym q) tt)))
+    go true false p q = refl
+    go false true p q = refl
+    go false false p q = le_antisym b a (at_most a b q) (at_most b a p)
+
+pub trimmed_is : (w : ℤ) (v hardest most limit : ℕ) → int_max (int_min w (int_min (pos limit -ℤ pos v) (pos most))) (neg_ℤ (pos (min hardest v))) ≡ trimmed_to w v hardest most limit
+unfolding smaller_of trimmed_into trimmed_to
+trimmed_is w v hardest most limit =
+    let low = neg_ℤ (pos (min hardest v)) in
+    let capped = int_min w (int_min (pos limit -ℤ pos v) (pos most)) in
+    larger capped low ∙ ap (λ (l : ℤ). cond (lt_z capped (neg_ℤ l)) (neg_ℤ l) capped) (sym (smaller_pos hardest v))
 
 -- a number from -k to h
 pub data Between (k h : ℕ) : ℤ → Type 0 where

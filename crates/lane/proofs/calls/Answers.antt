@@ -13,6 +13,8 @@ use Rattle.lane.specs.declared.Carrier.{Carrier}
 use Rattle.lane.specs.declared.Gap.{Gap}
 use Rattle.lane.specs.declared.Gap.TheVariants.{Behind, AheadOfAll}
 use Rattle.lane.specs.declared.Newcomer.{Newcomer}
+use Rattle.lane.specs.declared.refusal.Refusal.{Refusal}
+use Rattle.lane.specs.Refusals.{number_of}
 use Rattle.lane.specs.Limits.{most_carriers, last_cycle}
 use Rattle.lane.specs.Surface.{row_of, row_in}
 use Rattle.lane.specs.State.{State}
@@ -24,6 +26,7 @@ use Rattle.lane.specs.Table.{table_in, bad_table, load_no}
 use Rattle.lane.specs.Calls.{none, if_accepted, walk, gap_no, place_no, enter_no, named_no, place_of, ready_no, cycle_no, surface_no}
 use Rattle.lane.specs.Opening.{newcomer_at, gap_place, gap_named_no, opening_no}
 use Rattle.lane.specs.Call.{Call, Answer, call_no, accepted_state, lent_to, bare, accepted_answer, call_answer, call_state, Gives}
+use Rattle.lane.proofs.Refused.{number_is}
 use Rattle.lane.proofs.lists.Passed.{passed}
 use Rattle.lane.proofs.lists.Search.{place_any, place_le}
 use Rattle.lane.proofs.Newcomers.{Newcomer as InRange, newcomer_is}
@@ -91,6 +94,9 @@ gives_refused x l n e h =
       state = sym (refused_changes_nothing x (state_of l) f);
       refused = λ p. refl;
     }
+
+pub gives_refusal : (x : Call) (l : Words) (refusal : Refusal) → number_of refusal ≡ call_no x (state_of l) → Gives x l (bare (number_of refusal) (lent_to x)) l
+gives_refusal x l refusal e = gives_refused x l (number_of refusal) e (number_is refusal)
 
 pub gives_accepted : (x : Call) (l m : Words) → call_no x (state_of l) ≡ 0 → state_of m ≡ accepted_state x (state_of l)
     → Gives x l (accepted_answer x (state_of l)) m

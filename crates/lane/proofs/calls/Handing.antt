@@ -1,17 +1,15 @@
 -- A handover text as functions read and put it, part after part, and what decides a reading.
 use mathlib.Core.Path.{◌≡◌, refl, sym, ap, ◌∙◌}
-use mathlib.Core.Bool.{Bool, true, false, ◌&&◌, cond}
+use mathlib.Core.Bool.{true}
 use mathlib.Core.List.{List, [], ◌∷◌, ◌++◌, append-nil}
 use Prim.Native.Nat.{ℕ, ◌+◌, ◌≤◌}
 use native.Mathlib.Omega.{arith}
 use borrow.Author.Tests.{eq-eqb, ne_eqb}
-use lib.Dec.{leb}
-use lib.ListN.{length, take, drop, length-append}
+use lib.ListN.{length, take, length-append}
 use lib.Seq.{length-take-le}
-use Rattle.text.specs.Groups.{got, missing, group_in}
+use Rattle.text.specs.Groups.{got, missing, whole, group_in}
 use Rattle.text.specs.Lines.{written}
 use Rattle.text.proofs.Laws.{putting_start, putting_next, putting_end}
-use Rattle.text.proofs.GroupLaws.{whole_told}
 use Rattle.lane.specs.declared.Carrier.{Carrier}
 use Rattle.lane.specs.declared.Road.{Road}
 use Rattle.lane.specs.declared.Row.{Row}
@@ -26,21 +24,31 @@ use Rattle.lane.specs.Handover.{road_keys, road_text, handover_text, handed, han
 
 -- ---- a text as it is read
 
-module _ (text : List ℕ) (in_force next : List Row) (ns : List ℕ) (cs : List Carrier) (p q r s : ℕ) where
-  -- its four parts, each read where the one before ends
-  pub parts_told : (a b c d e : Bool)
-      → rows_in text ≡ cond a (got in_force (drop p text)) missing
-      → rows_in (drop p text) ≡ cond b (got next (drop q text)) missing
-      → group_in road_keys (drop q text) ≡ cond c (got ns (drop r text)) missing
-      → lane_text_in (drop r text) ≡ cond (d && e) (got cs (drop s text)) missing
-      → handover_in text ≡ cond (a && b && c && d && e && leb (length text) s) (got (handed in_force next ns cs) []) missing
+-- its four parts, each where the one before ends: one that is missing, or all of them
+module _ (text : List ℕ) where
+  pub in_force_missing : rows_in text ≡ missing → handover_in text ≡ missing
   unfolding handover_in
-  parts_told false b c d e h i j k = rw h refl
-  parts_told true false c d e h i j k = rw (h, i) refl
-  parts_told true true false d e h i j k = rw (h, i, j) refl
-  parts_told true true true false e h i j k = rw (h, i, j, k) refl
-  parts_told true true true true false h i j k = rw (h, i, j, k) refl
-  parts_told true true true true true h i j k = rw (h, i, j, k) (whole_told (handed in_force next ns cs) true s text)
+  in_force_missing e = rw e refl
+
+  module _ {in_force : List Row} {behind : List ℕ} (first : rows_in text ≡ got in_force behind) where
+    pub next_missing : rows_in behind ≡ missing → handover_in text ≡ missing
+    unfolding handover_in
+    next_missing e = rw (first, e) refl
+
+    module _ {next : List Row} {behind₂ : List ℕ} (second : rows_in behind ≡ got next behind₂) where
+      pub road_missing : group_in road_keys behind₂ ≡ missing → handover_in text ≡ missing
+      unfolding handover_in
+      road_missing e = rw (first, second, e) refl
+
+      module _ {ns behind₃ : List ℕ} (third : group_in road_keys behind₂ ≡ got ns behind₃) where
+        pub lane_missing : lane_text_in behind₃ ≡ missing → handover_in text ≡ missing
+        unfolding handover_in
+        lane_missing e = rw (first, second, third, e) refl
+
+        pub parts_told : {cs : List Carrier} {rest : List ℕ} → lane_text_in behind₃ ≡ got cs rest
+            → handover_in text ≡ whole (got (handed in_force next ns cs) rest)
+        unfolding handover_in
+        parts_told e = rw (first, second, third, e) refl
 
 -- the rows in force are put by way of those for the next start
 pub tables_put : {t₁ t₂ t₃ : Tables} (old first second : List Row) → t₁ ≡ record { in_force = old; next = first }

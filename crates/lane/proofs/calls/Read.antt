@@ -1,18 +1,15 @@
 -- The lane text as it is read: carrier after carrier into the records, again what was written, and nothing else than that.
 use mathlib.Core.Path.{◌≡◌, refl, sym, ap, ◌∙◌}
-use mathlib.Core.Bool.{Bool, true, false, ◌&&◌, cond}
 use mathlib.Core.List.{List, [], ◌∷◌, ◌++◌, map, map-map, map-id, map-append, append_assoc}
 use Prim.Native.Nat.{ℕ, zero, suc, ◌+◌, ◌≤◌, ◌<◌}
 use native.Mathlib.Numerals.{add-one}
 use native.Mathlib.Omega.{arith}
-use lib.ListN.{length, get_or, take, drop, set, length-map, length-set}
+use lib.ListN.{length, get_or, take, set, length-map, length-set}
 use lib.Seq.{take-suc-set}
 use Rattle.text.specs.Numbers.{decimal}
 use Rattle.text.specs.Lines.{line}
-use Rattle.text.specs.Fields.{FieldRead}
 use Rattle.text.specs.Groups.{groups_text, Got, got, missing, and_then, number_line, group_in, groups_in}
-use Rattle.text.specs.declared.fields.Field.{Field}
-use Rattle.text.proofs.GroupLaws.{Held, AllHeld, line_again, groups_again, got_injective, got≢missing, line_taken, groups_taken, line_told, GroupsRead, groups_start, groups_on, groups_stop, groups_end}
+use Rattle.text.proofs.GroupLaws.{Held, AllHeld, line_again, groups_again, got_injective, got≢missing, line_taken, groups_taken, GroupsRead, groups_start, groups_on, groups_stop, groups_end}
 use Rattle.lane.specs.declared.Carrier.{Carrier}
 use Rattle.lane.specs.State.{State}
 use Rattle.lane.specs.Layout.{record_in}
@@ -58,48 +55,44 @@ each_fits (c ∷ cs) h (suc i) p = each_fits cs h.1 i (omega arith)
 
 -- ---- record after record
 
--- the first `done` carriers are read and stand in the first records, and the others are still in the text from a place on
-pub record CarriersRead (text : List ℕ) (at count : ℕ) (records : List Carrier) (place done : ℕ) : Type 0 where
+-- the first `done` carriers are read and stand in the first records, and the others are still in what is left of the text
+pub record CarriersRead (count : ℕ) (t : List ℕ) (done : ℕ) (records : List Carrier) (left : List ℕ) : Type 0 where
   pub long : length records ≡ 64
-  pub groups : GroupsRead carrier_keys count text at done (map carrier_numbers (take done records)) place
+  pub groups : GroupsRead carrier_keys count t done (map carrier_numbers (take done records)) left
 
-pub carriers_start : (text : List ℕ) (at count : ℕ) (records : List Carrier) → length records ≡ 64 → CarriersRead text at count records at 0
-carriers_start text at count records e = record { long = e; groups = groups_start carrier_keys count text at }
+pub carriers_start : (count : ℕ) (t : List ℕ) (records : List Carrier) → length records ≡ 64 → CarriersRead count t 0 records t
+carriers_start count t records e = record { long = e; groups = groups_start carrier_keys count t }
 
-module _ {text : List ℕ} {at count : ℕ} {records : List Carrier} {place done : ℕ} (m : CarriersRead text at count records place done) where
-  -- one carrier more, as it was told
-  module _ (h : done < count) (ok : Bool) (c : Carrier) (next : ℕ)
-      (told : group_in carrier_keys (drop place text) ≡ cond ok (got (carrier_numbers c) (drop next text)) missing) where
-    pub carriers_on : count ≤ 64 → ok ≡ true → CarriersRead text at count (set records done c) next (done + 1)
-    carriers_on few e =
+module _ {count : ℕ} {t : List ℕ} {done : ℕ} {records : List Carrier} {left : List ℕ} (m : CarriersRead count t done records left) where
+  -- one carrier more
+  module _ (h : done < count) where
+    pub carriers_on : (c : Carrier) {rest : List ℕ} → count ≤ 64 → group_in carrier_keys left ≡ got (carrier_numbers c) rest
+        → CarriersRead count t (done + 1) (set records done c) rest
+    carriers_on c few e =
         let put : take (done + 1) (set records done c) ≡ take done records ++ (c ∷ []) =
         rw (add-one done) (take-suc-set records done c (omega (arith, m.long)))
         in
-        record {
-          long = length-set records done c ∙ m.long;
-          groups = rw (put, map-append) (groups_on m.groups h ok (carrier_numbers c) next told e);
-        }
+        record { long = length-set records done c ∙ m.long; groups = rw (put, map-append) (groups_on m.groups h e) }
 
-    pub carriers_stop : ok ≡ false → carriers_in count (drop at text) ≡ missing
+    pub carriers_stop : group_in carrier_keys left ≡ missing → carriers_in count t ≡ missing
     unfolding carriers_in
-    carriers_stop e = rw (groups_stop m.groups h ok (carrier_numbers c) next told e) refl
+    carriers_stop e = rw (groups_stop m.groups h e) refl
 
-  pub carriers_end : count ≤ done → carriers_in count (drop at text) ≡ got (take count records) (drop place text)
+  pub carriers_end : count ≤ done → carriers_in count t ≡ got (take count records) left
   unfolding carriers_in
   carriers_end h =
       let all : done ≡ count = omega (arith, m.groups.within) in
       rw (groups_end m.groups h, carriers_of, all) refl
 
--- a lane text, as its first line and its carriers are told
-pub lane_told : (text : List ℕ) (at : ℕ) (f : Field) → FieldRead cars_key.name cars_key.most text at f → (ok : Bool) (cs : List Carrier) (next : ℕ)
-    → carriers_in f.value (drop f.next text) ≡ cond ok (got cs (drop next text)) missing
-    → lane_text_in (drop at text) ≡ cond (f.ok && ok) (got cs (drop next text)) missing
-unfolding lane_text_in
-lane_told text at f read ok cs next told = rw (line_told cars_key text at f read) (by_test f.ok)
-  where
-    by_test : (t : Bool) → and_then (cond t (got f.value (drop f.next text)) missing) carriers_in ≡ cond (t && ok) (got cs (drop next text)) missing
-    by_test true = told
-    by_test false = refl
+-- a lane text by its first line
+module _ (t : List ℕ) where
+  pub lane_none : number_line cars_key t ≡ missing → lane_text_in t ≡ missing
+  unfolding lane_text_in
+  lane_none e = rw e refl
+
+  pub lane_told : {count : ℕ} {rest : List ℕ} → number_line cars_key t ≡ got count rest → lane_text_in t ≡ carriers_in count rest
+  unfolding lane_text_in
+  lane_told e = rw e refl
 
 -- ---- what was written is read again
 

@@ -1,18 +1,17 @@
 -- Table text as groups of numbers: read again as it was written, taken for nothing else, as functions tell of it; and as a loop over its rows makes it.
 use mathlib.Core.Path.{◌≡◌, refl, sym, ap, ◌∙◌}
-use mathlib.Core.Bool.{Bool, true, false, not, ◌&&◌, ◌||◌, cond, true≢false}
+use mathlib.Core.Bool.{true, false, true≢false}
 use mathlib.Core.List.{List, [], ◌∷◌, ◌++◌, map}
 use Prim.Native.Nat.{ℕ, zero, suc, ◌+◌, ◌*◌, ◌≤◌, ◌<◌}
 use native.Mathlib.Numerals.{add-one}
 use native.Mathlib.Omega.{arith}
-use borrow.Author.Tests.{leb-true, leb-false, lt-ltb, le-ltb}
-use lib.Dec.{leb, ltb}
 use lib.ListN.{length, drop, length-map, length-append, drop_of_length-le}
 use lib.Seq.{drop-cons}
+use Rattle.std.specs.Prelude.{Option, Some, None, MatchOption, is_some, not}
 use Rattle.text.specs.Numbers.{decimal}
-use Rattle.text.specs.Groups.{groups_text, Got, got, missing, and_then, whole, groups_in}
+use Rattle.text.specs.Groups.{groups_text, Got, got, missing, and_then, groups_in}
 use Rattle.text.proofs.Laws.{decimal_at_most, length_line}
-use Rattle.text.proofs.GroupLaws.{Held, AllHeld, groups_again, groups_taken, got_injective, got≢missing, whole_told, whole_taken}
+use Rattle.text.proofs.GroupLaws.{Held, AllHeld, groups_again, groups_taken, got_injective, got≢missing, whole_end, whole_more, whole_taken}
 use Rattle.lane.specs.declared.Row.{Row}
 use Rattle.lane.specs.Surface.{row, row_of, unsound}
 use Rattle.lane.specs.Layout.{surface_in}
@@ -83,17 +82,14 @@ rows_taken t rs rest e = by_groups (groups_in row_keys 8 t) refl e
         rw (sym g.0, sym g.1, text) (k.0, length-map gs surface_in ∙ k.1, λ i p. rows.1 i (omega (arith, k.1)))
     by_groups missing q e = absurd (got≢missing (sym e))
 
--- as a function tells of their numbers
-pub rows_told : (text : List ℕ) (at : ℕ) (ok : Bool) (table : List (List ℕ)) (next : ℕ)
-    → groups_in row_keys 8 (drop at text) ≡ cond ok (got table (drop next text)) missing
-    → rows_in (drop at text) ≡ cond ok (got (map surface_in table) (drop next text)) missing
+-- by their numbers
+pub rows_told : (t : List ℕ) {table : List (List ℕ)} {rest : List ℕ} → groups_in row_keys 8 t ≡ got table rest → rows_in t ≡ got (map surface_in table) rest
 unfolding rows_in
-rows_told text at ok table next e = rw e (by_test ok)
-  where
-    by_test : (t : Bool) → and_then (cond t (got table (drop next text)) missing) (λ gs u. got (map surface_in gs) u)
-        ≡ cond t (got (map surface_in table) (drop next text)) missing
-    by_test true = refl
-    by_test false = refl
+rows_told t e = rw e refl
+
+pub rows_missing : (t : List ℕ) → groups_in row_keys 8 t ≡ missing → rows_in t ≡ missing
+unfolding rows_in
+rows_missing t e = rw e refl
 
 -- ---- all of a text
 
@@ -106,30 +102,20 @@ eight_loaded text e = by_rows (table_in text) refl e
     by_rows (got rs rest) q e = (rows_taken text rs [] (whole_taken (rows_in text) rs rest q).0).1
     by_rows missing q e = absurd (true≢false e)
 
--- what a load finds of a text, as a function tells of its numbers
-module _ (text : List ℕ) (ok : Bool) (table : List (List ℕ)) (next : ℕ) (told : groups_in row_keys 8 text ≡ cond ok (got table (drop next text)) missing) where
-  table_told : table_in text ≡ cond (ok && leb (length text) next) (got (map surface_in table) []) missing
-  unfolding table_in
-  table_told = ap whole (rows_told text 0 ok table next told) ∙ whole_told (map surface_in table) ok next text
+-- what a load finds of a text, by the numbers of its rows
+module _ (text : List ℕ) where
+  pub bad_missing : groups_in row_keys 8 text ≡ missing → bad_table (table_in text) ≡ true
+  unfolding table_in bad_table
+  bad_missing e = rw (rows_missing text e) refl
 
-  pub bad_told : bad_table (table_in text) ≡ not ok || ltb next (length text) || unsound (map surface_in table)
-  unfolding bad_table
-  bad_told = rw table_told (by_tests ok (leb (length text) next) refl)
-    where
-      by_tests : (s t : Bool) → leb (length text) next ≡ t
-          → bad_table (cond (s && t) (got (map surface_in table) []) missing) ≡ not s || ltb next (length text) || unsound (map surface_in table)
-      by_tests false t e = refl
-      by_tests true true e = rw (le-ltb next (length text) (leb-true (length text) next e)) refl
-      by_tests true false e = rw (lt-ltb next (length text) (leb-false (length text) next e)) refl
+  module _ {table : List (List ℕ)} {rest : List ℕ} (e : groups_in row_keys 8 text ≡ got table rest) where
+    pub bad_more : 1 ≤ length rest → bad_table (table_in text) ≡ true
+    unfolding table_in bad_table
+    bad_more h = rw (rows_told text e, whole_more (map surface_in table) rest h) refl
 
-  pub rows_loaded_is : bad_table (table_in text) ≡ false → rows_loaded (table_in text) ≡ map surface_in table
-  unfolding bad_table rows_loaded
-  rows_loaded_is good = rw table_told (by_test (ok && leb (length text) next) (rw table_told at good))
-    where
-      by_test : (t : Bool) → bad_table (cond t (got (map surface_in table) []) missing) ≡ false
-          → rows_loaded (cond t (got (map surface_in table) []) missing) ≡ map surface_in table
-      by_test true e = refl
-      by_test false e = absurd (true≢false e)
+    pub loaded_all : length rest ≡ 0 → (bad_table (table_in text) ≡ unsound (map surface_in table)) × (rows_loaded (table_in text) ≡ map surface_in table)
+    unfolding table_in bad_table rows_loaded
+    loaded_all h = rw (rows_told text e, whole_end (map surface_in table) rest h) (refl, refl)
 
 -- ---- lengths
 
@@ -167,3 +153,10 @@ module _ (rs : List Row) (code : ℕ) where
 
   pub length_past : length rs ≤ code → length (table_text (drop code rs)) ≡ 0
   length_past h = ap length (text_past h)
+
+-- whether there is a table tells whether the text is bad
+pub bad_unless : (text : List ℕ) (loaded : Option (List (List ℕ)))
+    → MatchOption loaded (bad_table (table_in text) ≡ true) (λ table. (bad_table (table_in text) ≡ false) × (rows_loaded (table_in text) ≡ map surface_in table))
+    → bad_table (table_in text) ≡ not (is_some loaded)
+bad_unless text (Some table) h = h.0
+bad_unless text None h = h

@@ -1,28 +1,19 @@
 -- What a lookup gives, by the place of the first carrier with the number, and what its caller reads from it.
 use mathlib.Core.Path.{◌≡◌, refl, sym, ap, ◌∙◌}
-use mathlib.Core.Bool.{Bool, true, false, cond, true≢false, false≢true}
+use mathlib.Core.Bool.{Bool, true, false, cond}
 use mathlib.Core.List.{List}
 use Prim.Native.Nat.{ℕ, ◌+◌, ◌≤◌, ◌<◌}
 use native.Mathlib.Omega.{arith}
 use borrow.Author.Tests.{lt-ltb, le-ltb, ltb-true}
 use lib.ListN.{length, get_or}
 use lib.Seq.{slice}
+use Rattle.std.specs.Prelude.{Option, Some, None}
 use Rattle.lane.specs.declared.Carrier.{Carrier}
-use Rattle.lane.specs.declared.lookup.Found.{Found}
-use Rattle.lane.specs.declared.lookup.Found.TheVariants.{At, Absent}
 use Rattle.lane.specs.declared.lookup.Lookup.{Lookup}
 use Rattle.lane.specs.Safety.{any_of, first_place, numbered}
 use Rattle.lane.specs.Lookup.{lookup}
 use Rattle.lane.specs.Calls.{none}
 use Rattle.lane.proofs.lists.Search.{place_past, place_found, place_on, place_any}
-
-abbrev is_at : Found → Bool
-is_at (At place) = true
-is_at Absent = false
-
-abbrev place_in : Found → ℕ
-place_in (At place) = place
-place_in Absent = 0
 
 module _ (number : ℕ) (cs : List Carrier) where
   abbrev place : ℕ
@@ -30,20 +21,20 @@ module _ (number : ℕ) (cs : List Carrier) where
 
   -- the answer, by whether the number stands
   abbrev answer : Bool → Lookup
-  answer t = cond t (record { found = At place; looked = place + 1 }) (record { found = Absent; looked = length cs })
+  answer t = cond t (record { found = Some place; looked = place + 1 }) (record { found = None; looked = length cs })
 
-  pub lookup_found : place < length cs → lookup number cs ≡ record { found = At place; looked = place + 1 }
+  pub lookup_found : place < length cs → lookup number cs ≡ record { found = Some place; looked = place + 1 }
   unfolding lookup
   lookup_found h = rw (sym (place_any (numbered number) cs) ∙ lt-ltb place (length cs) h) refl
 
-  pub lookup_absent : length cs ≤ place → lookup number cs ≡ record { found = Absent; looked = length cs }
+  pub lookup_absent : length cs ≤ place → lookup number cs ≡ record { found = None; looked = length cs }
   unfolding lookup
   lookup_absent h = rw (sym (place_any (numbered number) cs) ∙ le-ltb place (length cs) h) refl
 
   -- a search that has looked at i records has not passed the place
   module _ (i : ℕ) (here : place ≡ i + first_place (numbered number) (slice i (length cs) cs)) where
     pub ends_found : i < length cs → numbered number (get_or cs i none) ≡ true → (n : ℕ) → n ≡ i + 1
-        → record { found = At i; looked = n } ≡ lookup number cs
+        → record { found = Some i; looked = n } ≡ lookup number cs
     ends_found h e n k =
         let p : i ≡ place = place_found (numbered number) cs (length cs) i place here (get_or cs i none) refl h (omega arith) e in
         rw (k, p) (sym (lookup_found (omega (arith, h, p))))
@@ -52,7 +43,7 @@ module _ (number : ℕ) (cs : List Carrier) where
         → place ≡ n + first_place (numbered number) (slice n (length cs) cs)
     goes_on h e n k = rw k (place_on (numbered number) cs (length cs) i place here (get_or cs i none) refl h (omega arith) e)
 
-    pub ends_absent : i ≡ length cs → record { found = Absent; looked = i } ≡ lookup number cs
+    pub ends_absent : i ≡ length cs → record { found = None; looked = i } ≡ lookup number cs
     ends_absent k =
         let p : i ≡ place = place_past (numbered number) cs (length cs) i place here (omega arith) in
         rw k (sym (lookup_absent (omega (arith, k, p))))
@@ -76,20 +67,20 @@ module _ (number : ℕ) (cs : List Carrier) where
 
   -- what is found tells whether and where the number stands
   module _ (r : Lookup) (is : r ≡ lookup number cs) where
-    given : (f : Found) → r.found ≡ f → (answer (any_of (numbered number) cs)).found ≡ f
+    given : (f : Option ℕ) → r.found ≡ f → (answer (any_of (numbered number) cs)).found ≡ f
     unfolding lookup
     given f e = ap (λ (x : Lookup). x.found) (sym is) ∙ e
 
-    pub found_at : (p : ℕ) → r.found ≡ At p → (any_of (numbered number) cs ≡ true) × (p ≡ place)
-    found_at p e = by_test (any_of (numbered number) cs) (given (At p) e)
+    pub found_at : (p : ℕ) → r.found ≡ Some p → (any_of (numbered number) cs ≡ true) × (p ≡ place)
+    found_at p e = by_test (any_of (numbered number) cs) (given (Some p) e)
       where
-        by_test : (t : Bool) → (answer t).found ≡ At p → (t ≡ true) × (p ≡ place)
-        by_test true e = (refl, ap place_in (sym e))
-        by_test false e = absurd (false≢true (ap is_at e))
+        by_test : (t : Bool) → (answer t).found ≡ Some p → (t ≡ true) × (p ≡ place)
+        by_test true e = (refl, cc)
+        by_test false e = absurd (cc)
 
-    pub found_nowhere : r.found ≡ Absent → any_of (numbered number) cs ≡ false
-    found_nowhere e = by_test (any_of (numbered number) cs) (given Absent e)
+    pub found_nowhere : r.found ≡ None → any_of (numbered number) cs ≡ false
+    found_nowhere e = by_test (any_of (numbered number) cs) (given None e)
       where
-        by_test : (t : Bool) → (answer t).found ≡ Absent → t ≡ false
-        by_test true e = absurd (true≢false (ap is_at e))
+        by_test : (t : Bool) → (answer t).found ≡ None → t ≡ false
+        by_test true e = absurd (cc)
         by_test false e = refl

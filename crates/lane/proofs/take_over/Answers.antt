@@ -1,29 +1,31 @@
 -- A text that holds no lane is refused by 36, and any other by the number of its lane.
-use mathlib.Core.Path.{◌≡◌, refl, sym, ◌∙◌, subst}
+use mathlib.Core.Path.{◌≡◌, refl, sym, ap, ◌∙◌}
 use Prim.Native.Nat.{ℕ}
 use native.Mathlib.Omega.{arith}
-use Rattle.lane.specs.Handover.{take_over_no, TakesOver}
+use Rattle.lane.specs.Refusals.{outcome_no}
+use Rattle.lane.specs.Handover.{take_over_no}
+use Rattle.lane.proofs.Refused.{refused_number, accepted_zero}
 use Rattle.lane.proofs.calls.Handing.{reads_none, reads_one, taken, refused}
-use Rattle.lane.proofs.take_over.Goals.{then-read, else-read, Joined-read}
+use Rattle.lane.proofs.take_over.Goals.{in-Some, in-None, Joined-read}
 use Rattle.lane.proofs.take_over.Goals as goal
 
--- the number that refuses, or 0, is that of the text
-number : (j : Joined-read) → j.if-read.no ≡ take_over_no j.args.text.now
+-- the number of what is returned is that of the text
+number : (j : Joined-read) → outcome_no j.match-read.taken ≡ take_over_no j.args.text.now
 number j =
-    elim j.if-read.branch [
-      | then-read w ↦ w.no-is ∙ w.lane_refusal-no.ensures ∙ sym (reads_one _ _ w.if-read.ensures)
-      | else-read w ↦ w.no-is ∙ sym (reads_none _ w.if-read.ensures)
+    elim j.match-read.branch [
+      | in-Some w ↦ ap outcome_no w.taken-is ∙ w.check_lane-taken.ensures ∙ sym (reads_one _ _ w.in-Some.ensures)
+      | in-None w ↦ ap outcome_no w.taken-is ∙ sym (reads_none _ w.in-None.ensures)
     ]
 
-pub returns-then-no-ne0 : goal.returns-then-no-ne0
-returns-then-no-ne0 c =
-    refused c.args.text.now c.if-read.no _ (number (goal.at.returns-then-no-ne0 c).Joined-read) c.if-no-ne0.true c.clear.ensures
+pub returns-then-is_err : goal.returns-then-is_err
+returns-then-is_err c =
+    refused c.args.text.now _ _ (number (goal.at.returns-then-is_err c).Joined-read) (refused_number c.match-read.taken (sym c.is_err.ensures.value ∙ c.if-is_err.true)) c.clear.ensures
 
-pub returns-else-no-ne0 : goal.returns-else-no-ne0
-returns-else-no-ne0 c =
-    let zero : c.if-read.no ≡ 0 = c.if-no-ne0.false in
-    subst (λ (n : ℕ). TakesOver c.args.text.now n c.read.new.l) (sym zero)
-    (elim c.if-read.branch [
-      | then-read w ↦ taken c.args.text.now _ _ w.if-read.ensures (sym w.lane_refusal-no.ensures ∙ sym w.no-is ∙ zero) refl
-      | else-read w ↦ absurd (omega (arith, w.no-is, zero))
+pub returns-else-is_err : goal.returns-else-is_err
+returns-else-is_err c =
+    let zero = accepted_zero c.match-read.taken (sym c.is_err.ensures.value ∙ c.if-is_err.false) in
+    rw zero
+    (elim c.match-read.branch [
+      | in-Some w ↦ taken c.args.text.now _ _ w.in-Some.ensures (sym w.check_lane-taken.ensures ∙ ap outcome_no (sym w.taken-is) ∙ zero) refl
+      | in-None w ↦ let none : ◌≡◌ {A = ℕ} 36 0 = ap outcome_no (sym w.taken-is) ∙ zero in absurd (omega arith)
     ])

@@ -41,7 +41,3 @@ returns-then-size c =
 
 pub float_from_bits-result : goal.float_from_bits-result
 float_from_bits-result c = rw (nan_bits_above, le-ltb 0x7f80_0000 (c.args.bits % 0x8000_0000) (omega arith)) tt
-
-pub returns : goal.returns
-returns c =
-    record { acceleration = (same _ _ refl).0; target = (same _ _ refl).1 }

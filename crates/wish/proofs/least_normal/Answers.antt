@@ -1,20 +1,12 @@
--- `wish::least_normal` meets its contract: both patterns are computed. Assumes nothing.
+-- `wish::least_normal` meets its contract: both numbers are computed. Assumes nothing.
 use mathlib.Core.Path.{refl}
-use lib.Ieee.{of_bits, nan_bits}
+use lib.Ieee.{of_bits, neg}
 use Rattle.wish.proofs.least_normal.Goals as goal
 
-pub float_from_bits-result : goal.float_from_bits-result
-unfolding nan_bits
-float_from_bits-result c = tt
-
 pub returns-then-minus : goal.returns-then-minus
-unfolding of_bits
+unfolding of_bits neg
 returns-then-minus c = rw c.if-minus.true refl
 
-pub float_from_bits-result-2 : goal.float_from_bits-result-2
-unfolding nan_bits
-float_from_bits-result-2 c = tt
-
-pub returns : goal.returns
+pub returns-else-minus : goal.returns-else-minus
 unfolding of_bits
-returns c = rw c.if-minus.false refl
+returns-else-minus c = rw c.if-minus.false refl

@@ -1,4 +1,4 @@
--- `wish::rounded` meets its contract: y is the fraction that `fraction_of` gives, and `rounded_size` rounds it. Assumes nothing.
+-- `wish::rounded` meets its contract: y is the fraction that `Fraction::of` gives, and `rounded_size` rounds it. Assumes nothing.
 use mathlib.Core.Path.{◌≡◌, refl, sym, ap, ◌∙◌}
 use mathlib.Core.Bool.{Bool, true, false}
 use Prim.Native.Nat.{ℕ, ◌*◌, ◌^◌, ◌<◌}
@@ -9,23 +9,20 @@ use lib.IntN.{pos, +ℤ_idl}
 use lib.Pow.{pow_pos}
 use Rattle.wish.specs.Rounding.{signed, rounded_size, rounded_times}
 use Rattle.wish.proofs.Values.{rounded_value}
-use Rattle.wish.proofs.Ints.{unsigned_read, minus_fits, minus_is}
+use Rattle.wish.proofs.Ints.{unsigned_read, minus_is}
 use Rattle.wish.proofs.rounded.Goals.{After-rounded_size-size}
 use Rattle.wish.proofs.rounded.Goals as goal
 
 -- the size to which the fraction is rounded is, with the sign of y, y rounded
-whole : (c : After-rounded_size-size) (s : Bool) → c.fraction_of-f.result.negative ≡ s → signed s c.rounded_size-size.result ≡ rounded_times 1 c.args.y
+whole : (c : After-rounded_size-size) (s : Bool) → c.of-f.result.negative ≡ s → signed s c.rounded_size-size.result ≡ rounded_times 1 c.args.y
 whole c s e =
-    let r = c.fraction_of-f.result in
+    let r = c.of-f.result in
     ap (signed s) (c.rounded_size-size.ensures ∙ ap (λ (x : ℕ). rounded_size x (2 ^ r.shift)) (sym (mul-one r.digits)))
     ∙ ap (λ (t : Bool). signed t (rounded_size (r.digits * 1) (2 ^ r.shift))) (sym e)
-    ∙ sym (rounded_value 1 c.args.y r.negative r.digits (2 ^ r.shift) (pow_pos r.shift) c.fraction_of-f.ensures.0)
+    ∙ sym (rounded_value 1 c.args.y r.negative r.digits (2 ^ r.shift) (pow_pos r.shift) c.of-f.ensures.0)
 
 small : (c : After-rounded_size-size) → c.rounded_size-size.result < 2 ^ 32
 small c = omega arith
-
-pub overflow_sub-result : goal.overflow_sub-result
-overflow_sub-result c = let h = small (goal.at.overflow_sub-result c).After-rounded_size-size in minus_fits (pos 0) _ refl (unsigned_read h) (lit< tt) h
 
 pub returns-then-f : goal.returns-then-f
 returns-then-f c = let h = small (goal.at.returns-then-f c).After-rounded_size-size in minus_is (pos 0) _ refl (unsigned_read h) (lit< tt) h ∙ +ℤ_idl _ ∙ whole (goal.at.returns-then-f c).After-rounded_size-size true c.if-f.true

@@ -1,77 +1,45 @@
--- `wish::trimmed` meets its contract: its ends are those of the definition, which nothing of 32 bits brings near the bounds of 64, and its tests are the definition's. Assumes nothing.
+-- `wish::trimmed` meets its contract: its ends are those of the definition, which nothing of 32 bits brings near the bounds of 64. Assumes nothing.
 use borrow.Author.Rules.{rules}
-use mathlib.Core.Path.{◌≡◌, refl, sym, ap, ap₂, ◌∙◌}
-use mathlib.Core.Bool.{Bool, true, false, cond}
-use Prim.Native.Nat.{ℕ, ◌<◌, ◌^◌, min}
+use mathlib.Core.Path.{◌≡◌, refl, ap, ap₂, ◌∙◌}
+use Prim.Native.Nat.{◌<◌, ◌^◌, min}
 use native.Mathlib.Nat.{lt_of_le_of_lt, lt_of_lt_of_le, min-le_left}
 use lib.Dec.{lit≤, lit<}
-use lib.IntN.{ℤ, pos, neg_ℤ, ◌-ℤ◌, +ℤ_idl}
-use lib.Signed.{lt_z}
+use lib.IntN.{pos, neg_ℤ, ◌-ℤ◌, +ℤ_idl}
 use mir.Syntax.{w64}
-use mir.Val.{SFits, to_z, of_z}
-use Rattle.wish.specs.Trimming.{smaller_of, trimmed_into, trimmed_to}
-use Rattle.wish.proofs.Ints.{unsigned_read, minus_fits, minus_is}
-use Rattle.wish.proofs.Trimming.{smaller_pos}
-use Rattle.wish.proofs.trimmed.Goals.{After-smaller-capped, After-smaller-low, Start}
+use mir.Val.{to_z, of_z}
+use Rattle.std.specs.Int.{int_min, int_max}
+use Rattle.wish.proofs.Ints.{unsigned_read, minus_is}
+use Rattle.wish.proofs.Trimming.{trimmed_is}
+use Rattle.wish.specs.Trimming.{trimmed_to}
+use Rattle.wish.proofs.trimmed.Goals.{After-min, After-min-2}
 use Rattle.wish.proofs.trimmed.Goals as goal
 
--- how far the speed is below the limit
-module _ (c : Start) where
-  small : c.args.limit < 2 ^ 62
-  small = lt_of_lt_of_le c.ranges.limit.fits (lit≤ tt)
+-- the lower end, and the units with the upper one applied, as the machine reads them
+low : (c : After-min) → to_z w64 (of_z w64 (pos 0 -ℤ to_z w64 c.min.result)) ≡ neg_ℤ (pos (min c.args.hardest c.args.v))
+low c =
+    let k = min c.args.hardest c.args.v in
+    let few : k < 2 ^ 32 = lt_of_le_of_lt (min-le_left c.args.hardest c.args.v) c.ranges.hardest.fits in
+    minus_is (pos 0) k refl (ap (to_z w64) c.min.ensures ∙ unsigned_read few) (lit< tt) few ∙ +ℤ_idl _
 
-  room_fits : SFits w64 (to_z w64 c.args.limit -ℤ to_z w64 c.args.v)
-  room_fits = minus_fits (pos c.args.limit) c.args.v (unsigned_read c.ranges.limit.fits) (unsigned_read c.ranges.v.fits) small c.ranges.v.fits
-
-  room_read : to_z w64 (of_z w64 (to_z w64 c.args.limit -ℤ to_z w64 c.args.v)) ≡ pos c.args.limit -ℤ pos c.args.v
-  room_read = minus_is (pos c.args.limit) c.args.v (unsigned_read c.ranges.limit.fits) (unsigned_read c.ranges.v.fits) small c.ranges.v.fits
-
--- the lower end, before its sign
-module _ (c : After-smaller-low) where
-  abbrev k : ℕ
-  k = min c.args.hardest c.args.v
-
-  few : k < 2 ^ 32
-  few = lt_of_le_of_lt (min-le_left c.args.hardest c.args.v) c.ranges.hardest.fits
-
-  read : to_z w64 (of_z w64 c.smaller-low.result) ≡ pos k
-  read =
-      let r : to_z w64 (of_z w64 c.smaller-low.result) ≡ c.smaller-low.result = search rules in
-      r ∙ c.smaller-low.ensures ∙ ap₂ smaller_of (unsigned_read c.ranges.hardest.fits) (unsigned_read c.ranges.v.fits) ∙ smaller_pos c.args.hardest c.args.v
-
-  low_fits : SFits w64 (pos 0 -ℤ to_z w64 (of_z w64 c.smaller-low.result))
-  low_fits = minus_fits (pos 0) k refl read (lit< tt) few
-
-  low_read : to_z w64 (of_z w64 (pos 0 -ℤ to_z w64 (of_z w64 c.smaller-low.result))) ≡ neg_ℤ (smaller_of (pos c.args.hardest) (pos c.args.v))
-  low_read = minus_is (pos 0) k refl read (lit< tt) few ∙ +ℤ_idl (neg_ℤ (pos k)) ∙ ap neg_ℤ (sym (smaller_pos c.args.hardest c.args.v))
-
-capped_read : (c : After-smaller-capped) → let a = c.args in
-    to_z w64 (of_z w64 c.smaller-capped.result) ≡ smaller_of (smaller_of (pos a.most) (pos a.limit -ℤ pos a.v)) a.w
-capped_read c =
-    let w : to_z w64 (of_z w64 c.args.w) ≡ c.args.w = search rules in
-    let h : to_z w64 (of_z w64 c.smaller-high.result) ≡ c.smaller-high.result = search rules in
-    let r : to_z w64 (of_z w64 c.smaller-capped.result) ≡ c.smaller-capped.result = search rules in
-    r ∙ c.smaller-capped.ensures ∙ ap₂ smaller_of (h ∙ c.smaller-high.ensures ∙ ap₂ smaller_of (unsigned_read c.ranges.most.fits) (room_read c.before.before.before)) w
+capped : (c : After-min-2) → let a = c.args in to_z w64 (of_z w64 c.min-2.result) ≡ int_min a.w (int_min (pos a.limit -ℤ pos a.v) (pos a.most))
+capped c =
+    let a = c.args in
+    let r = c.ranges in
+    let room : to_z w64 (of_z w64 (to_z w64 a.limit -ℤ to_z w64 a.v)) ≡ pos a.limit -ℤ pos a.v =
+    minus_is (pos a.limit) a.v (unsigned_read r.limit.fits) (unsigned_read r.v.fits) (lt_of_lt_of_le r.limit.fits (lit≤ tt)) r.v.fits in
+    let w : to_z w64 (of_z w64 a.w) ≡ a.w = search rules in
+    let high : to_z w64 (of_z w64 c.min-high.result) ≡ c.min-high.result = search rules in
+    let read : to_z w64 (of_z w64 c.min-2.result) ≡ c.min-2.result = search rules in
+    read ∙ c.min-2.ensures.value ∙ ap₂ int_min w (high ∙ c.min-high.ensures.value ∙ ap₂ int_min room (unsigned_read r.most.fits))
 
 -- the definition, at the two numbers that the machine compares
-is : (c : After-smaller-capped) (t : Bool) → let a = c.args in
-    let low = to_z w64 (of_z w64 (pos 0 -ℤ to_z w64 (of_z w64 c.smaller-low.result))) in
-    let capped = to_z w64 (of_z w64 c.smaller-capped.result) in
-    lt_z capped low ≡ t → cond t low capped ≡ trimmed_to a.w a.v a.hardest a.most a.limit
-unfolding trimmed_to trimmed_into
-is c t e =
-    let low = to_z w64 (of_z w64 (pos 0 -ℤ to_z w64 (of_z w64 c.smaller-low.result))) in
-    let capped = to_z w64 (of_z w64 c.smaller-capped.result) in
-    ap (λ (b : Bool). cond b low capped) (sym e) ∙ ap₂ (λ (l x : ℤ). cond (lt_z x l) l x) (low_read c.before.before) (capped_read c)
+is : (c : After-min-2) → let a = c.args in
+    let low = to_z w64 (of_z w64 (pos 0 -ℤ to_z w64 c.min.result)) in
+    let capped = to_z w64 (of_z w64 c.min-2.result) in
+    int_max capped low ≡ trimmed_to a.w a.v a.hardest a.most a.limit
+is c = let a = c.args in ap₂ int_max (capped c) (low c.before.before) ∙ trimmed_is a.w a.v a.hardest a.most a.limit
 
-pub overflow_sub-low : goal.overflow_sub-low
-overflow_sub-low c = low_fits (goal.at.overflow_sub-low c).After-smaller-low
-
-pub overflow_sub-limit : goal.overflow_sub-limit
-overflow_sub-limit c = room_fits (goal.at.overflow_sub-limit c).Start
-
-pub returns-then-capped-low : goal.returns-then-capped-low
-returns-then-capped-low c = is (goal.at.returns-then-capped-low c).After-smaller-capped true c.if-capped-low.true
-
-pub returns-else-capped-low : goal.returns-else-capped-low
-returns-else-capped-low c = is (goal.at.returns-else-capped-low c).After-smaller-capped false c.if-capped-low.false
+pub returns : goal.returns
+returns c =
+    let read : to_z w64 (of_z w64 c.max.result) ≡ c.max.result = search rules in
+    read ∙ c.max.ensures.value ∙ is (goal.at.returns c).After-min-2

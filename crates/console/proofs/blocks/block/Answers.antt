@@ -1,87 +1,69 @@
--- `console::blocks::block` meets its contract: the word of the `call=` line says which lines follow, and tells where the line ends.
+-- `console::blocks::block` meets its contract: the word of the `call=` line says which lines follow.
 use mathlib.Core.Path.{◌≡◌, refl}
-use Prim.Native.Nat.{suc, ◌+◌, ◌≤◌}
-use native.Mathlib.Omega.{arith}
-use lib.ListN.{length, drop}
+use mathlib.Core.Bool.{false}
+use Rattle.std.specs.Prelude.{Some, None}
 use Rattle.text.specs.Ascii.{ascii}
-use Rattle.text.specs.Fields.{line_length}
-use Rattle.text.proofs.ReadLaws.{value_after}
-use Rattle.console.specs.declared.blocks.Kind.{Kind}
-use Rattle.console.specs.declared.blocks.Kind.TheVariants.{Show}
-use Rattle.console.specs.Blocks.{after_line, lines_of, block_in, Begun}
-use Rattle.console.proofs.Lines.{first_read, all_read, refuses_8, read_as, block_of, no_block}
-use Rattle.console.proofs.blocks.block.Goals.{After-kind_of-kind, After-line_value-word, Else-word-eq0}
+use Rattle.text.specs.Fields.{is_word}
+use Rattle.console.specs.Blocks.{Start, Enter, Leave, Cycle, Show, Surface, kind_of, lines_of}
+use Rattle.console.proofs.Lines.{none_read_yet, all_read, word_test, kind_gives, no_block}
+use Rattle.console.proofs.blocks.block.Goals.{Else-eq, Else-eq-2, Else-eq-3, Else-eq-4, Else-eq-5}
 use Rattle.console.proofs.blocks.block.Goals as goal
 
--- the place after a line with a word, which is within the input
-ends : (c : Else-word-eq0) → let a = c.args in let word = c.line_value-word.result.now in
-    (a.at + (5 + length word + 1) ≡ a.at + suc (line_length (drop a.at a.input.now))) × (a.at + suc (line_length (drop a.at a.input.now)) ≤ length a.input.now)
-ends c =
-    let a = c.args in
-    value_after (ascii "call=") a.input.now a.at c.line_value-word.ensures (omega arith)
+no_start : (c : Else-eq) → is_word (ascii "start") c.in_ok-word.word.now ≡ false
+no_start c = word_test (ascii "start") _ c.as_slice.ensures c.eq.ensures c.if-eq.false
 
-block_is : (k : After-kind_of-kind) {kind : Kind} → k.kind_of-kind.result ≡ kind → let t = drop k.args.at k.args.input.now in block_in t ≡ after_line t (lines_of kind)
-block_is k e = block_of _ k.line_value-word.ensures k.kind_of-kind.ensures e
+no_enter : (c : Else-eq-2) → is_word (ascii "enter") c.in_ok-word.word.now ≡ false
+no_enter c = word_test (ascii "enter") _ c.as_slice-2.ensures c.eq-2.ensures c.if-eq-2.false
 
-begun : (k : After-kind_of-kind) → let a = k.args in
-    Begun a.input.now a.at (a.at + (5 + length k.line_value-word.result.now + 1)) a.out.now
-begun k = record { room = k.requires; after = (value_after (ascii "call=") k.args.input.now k.args.at k.line_value-word.ensures (omega arith)).0 }
+no_leave : (c : Else-eq-3) → is_word (ascii "leave") c.in_ok-word.word.now ≡ false
+no_leave c = word_test (ascii "leave") _ c.as_slice-3.ensures c.eq-3.ensures c.if-eq-3.false
 
-pub returns-then-word-eq0 : goal.returns-then-word-eq0
-returns-then-word-eq0 c =
-    refuses_8 (no_block _ c.line_value-word.ensures c.if-word-eq0.true) c.args.l.now c.refused.ensures
+no_cycle : (c : Else-eq-4) → is_word (ascii "cycle") c.in_ok-word.word.now ≡ false
+no_cycle c = word_test (ascii "cycle") _ c.as_slice-4.ensures c.eq-4.ensures c.if-eq-4.false
 
-pub overflow_add-first : goal.overflow_add-first
-overflow_add-first c = let e = ends (goal.at.overflow_add-first c).Else-word-eq0 in omega arith
+no_show : (c : Else-eq-5) → is_word (ascii "show") c.in_ok-word.word.now ≡ false
+no_show c = word_test (ascii "show") _ c.as_slice-5.ensures c.eq-5.ensures c.if-eq-5.false
 
-pub overflow_add-first-2 : goal.overflow_add-first-2
-overflow_add-first-2 c = let e = ends (goal.at.overflow_add-first-2 c).Else-word-eq0 in omega arith
+pub returns-in_err-word : goal.returns-in_err-word
+returns-in_err-word c = rw c.from_residual.ensures (no_block _ c.in_err-word.ensures.0, refl, refl)
 
-pub overflow_add-first-3 : goal.overflow_add-first-3
-overflow_add-first-3 c = let e = ends (goal.at.overflow_add-first-3 c).Else-word-eq0 in omega arith
+pub returns-then-eq : goal.returns-then-eq
+unfolding kind_of
+returns-then-eq c =
+    kind_gives _ {k = Some Start} c.in_ok-word.ensures (rw (word_test (ascii "start") _ c.as_slice.ensures c.eq.ensures c.if-eq.true) refl) _ _ _ _ _ _ c.start_block.ensures
 
-pub start_block-requires : goal.start_block-requires
-start_block-requires c = begun (goal.at.start_block-requires c).After-kind_of-kind
+pub returns-then-eq-2 : goal.returns-then-eq-2
+unfolding kind_of
+returns-then-eq-2 c =
+    let p = goal.at.returns-then-eq-2 c in
+    kind_gives _ {k = Some Enter} c.in_ok-word.ensures (rw (no_start p.Else-eq, word_test (ascii "enter") _ c.as_slice-2.ensures c.eq-2.ensures c.if-eq-2.true) refl) _ _ _ _ _ _ c.enter_block.ensures
 
-pub enter_block-requires : goal.enter_block-requires
-enter_block-requires c = begun (goal.at.enter_block-requires c).After-kind_of-kind
+pub returns-then-eq-3 : goal.returns-then-eq-3
+unfolding kind_of
+returns-then-eq-3 c =
+    let p = goal.at.returns-then-eq-3 c in
+    kind_gives _ {k = Some Leave} c.in_ok-word.ensures (rw (no_start p.Else-eq, no_enter p.Else-eq-2, word_test (ascii "leave") _ c.as_slice-3.ensures c.eq-3.ensures c.if-eq-3.true) refl) _ _ _ _ _ _ c.leave_block.ensures
 
-pub leave_block-requires : goal.leave_block-requires
-leave_block-requires c = begun (goal.at.leave_block-requires c).After-kind_of-kind
+pub returns-then-eq-4 : goal.returns-then-eq-4
+unfolding kind_of
+returns-then-eq-4 c =
+    let p = goal.at.returns-then-eq-4 c in
+    kind_gives _ {k = Some Cycle} c.in_ok-word.ensures (rw (no_start p.Else-eq, no_enter p.Else-eq-2, no_leave p.Else-eq-3, word_test (ascii "cycle") _ c.as_slice-4.ensures c.eq-4.ensures c.if-eq-4.true) refl) _ _ _ _ _ _ c.cycle_block.ensures
 
-pub cycle_block-requires : goal.cycle_block-requires
-cycle_block-requires c = begun (goal.at.cycle_block-requires c).After-kind_of-kind
+pub returns-then-eq-5 : goal.returns-then-eq-5
+unfolding kind_of
+returns-then-eq-5 c =
+    let p = goal.at.returns-then-eq-5 c in
+    kind_gives _ {k = Some Show} c.in_ok-word.ensures (rw (no_start p.Else-eq, no_enter p.Else-eq-2, no_leave p.Else-eq-3, no_cycle p.Else-eq-4, word_test (ascii "show") _ c.as_slice-5.ensures c.eq-5.ensures c.if-eq-5.true) refl) _ _ _ _ _ (Some _) (all_read (none_read_yet _ (lines_of (Some Show))) c.run_show.ensures)
 
-pub surface_block-requires : goal.surface_block-requires
-surface_block-requires c = begun (goal.at.surface_block-requires c).After-kind_of-kind
+pub returns-then-eq-6 : goal.returns-then-eq-6
+unfolding kind_of
+returns-then-eq-6 c =
+    let p = goal.at.returns-then-eq-6 c in
+    kind_gives _ {k = Some Surface} c.in_ok-word.ensures (rw (no_start p.Else-eq, no_enter p.Else-eq-2, no_leave p.Else-eq-3, no_cycle p.Else-eq-4, no_show p.Else-eq-5, word_test (ascii "surface") _ c.as_slice-6.ensures c.eq-6.ensures c.if-eq-6.true) refl) _ _ _ _ _ _ c.surface_block.ensures
 
-pub returns-in-Start : goal.returns-in-Start
-returns-in-Start c =
-    read_as (block_is (goal.at.returns-in-Start c).After-kind_of-kind c.in-Start.is) c.start_block.ensures
-
-pub returns-in-Enter : goal.returns-in-Enter
-returns-in-Enter c =
-    read_as (block_is (goal.at.returns-in-Enter c).After-kind_of-kind c.in-Enter.is) c.enter_block.ensures
-
-pub returns-in-Leave : goal.returns-in-Leave
-returns-in-Leave c =
-    read_as (block_is (goal.at.returns-in-Leave c).After-kind_of-kind c.in-Leave.is) c.leave_block.ensures
-
-pub returns-in-Cycle : goal.returns-in-Cycle
-returns-in-Cycle c =
-    read_as (block_is (goal.at.returns-in-Cycle c).After-kind_of-kind c.in-Cycle.is) c.cycle_block.ensures
-
-pub returns-in-Show : goal.returns-in-Show
-returns-in-Show c =
-    let a = c.args in
-    read_as (block_is (goal.at.returns-in-Show c).After-kind_of-kind c.in-Show.is)
-    (all_read ((first_read a.input.now a.at (lines_of Show) (ends (goal.at.returns-in-Show c).Else-word-eq0).0).there refl) c.run_show.ensures)
-
-pub returns-in-Surface : goal.returns-in-Surface
-returns-in-Surface c =
-    read_as (block_is (goal.at.returns-in-Surface c).After-kind_of-kind c.in-Surface.is) c.surface_block.ensures
-
-pub returns-in-Unknown : goal.returns-in-Unknown
-unfolding after_line
-returns-in-Unknown c =
-    refuses_8 (block_is (goal.at.returns-in-Unknown c).After-kind_of-kind c.in-Unknown.is) c.args.l.now c.refused-in-Unknown.ensures
+pub returns : goal.returns
+unfolding kind_of
+returns c =
+    let p = goal.at.returns c in
+    kind_gives _ {k = None} c.in_ok-word.ensures (rw (no_start p.Else-eq, no_enter p.Else-eq-2, no_leave p.Else-eq-3, no_cycle p.Else-eq-4, no_show p.Else-eq-5, word_test (ascii "surface") _ c.as_slice-6.ensures c.eq-6.ensures c.if-eq-6.false) refl) _ _ _ _ c.value.new.self.rest.now None (refl, refl, refl)

@@ -1,30 +1,32 @@
--- `console::blocks::leave_block` meets its contract: a block whose one field is read is run, and any other is refused by 8.
-use mathlib.Core.List.{List}
+-- `console::blocks::leave_block` meets its contract: its one line is read, and then it is run.
+use mathlib.Core.Path.{refl}
+use mathlib.Core.List.{List, [], ◌∷◌}
 use Prim.Native.Nat.{ℕ}
-use borrow.Author.Tests.{not-true, not-false}
-use lib.ListN.{drop}
+use lib.ListN.{get_or}
+use Rattle.text.specs.Groups.{Key}
 use Rattle.lane.specs.Listing.{car_key, car_most}
 use Rattle.lane.specs.Call.{leave_call}
-use Rattle.console.specs.Blocks.{Parsed, parsed, after_line, leave_lines}
-use Rattle.console.proofs.Lines.{Reached, first_read, field_read, all_read, refuses_8}
-use Rattle.console.proofs.blocks.leave_block.Goals.{After-read_field-car}
+use Rattle.console.specs.Blocks.{Parsed, parsed, leave_lines}
+use Rattle.console.proofs.Lines.{Reads, none_read_yet, fields, fields_on, fields_stop, fields_end, all_read}
+use Rattle.console.specs.Output.{printed}
+use Rattle.console.proofs.Printing.{refused_keeps, call_gives}
 use Rattle.console.proofs.blocks.leave_block.Goals as goal
 
-abbrev car_on : ℕ → List ℕ → Parsed
-car_on car t = parsed (leave_call car) 0
+abbrev keys : List Key
+keys = record { name = car_key; most = car_most } ∷ []
 
-lines : (c : After-read_field-car) → let a = c.args in
-    Reached a.input.now a.at c.read_field-car.result.next (after_line (drop a.at a.input.now) leave_lines)
-    c.read_field-car.result.ok (car_on c.read_field-car.result.value)
-unfolding leave_lines
-lines c =
-    let a = c.args in
-    field_read car_key car_most car_on c.read_field-car.ensures (first_read a.input.now a.at leave_lines c.requires.after)
+abbrev run : List ℕ → List ℕ → Parsed
+run ns t = parsed (leave_call (get_or ns 0 0)) 0
 
-pub returns-then-not-car : goal.returns-then-not-car
-returns-then-not-car c =
-    refuses_8 ((lines (goal.at.returns-then-not-car c).After-read_field-car).missing (not-true _ c.if-not-car.true)) c.args.l.now c.refused.ensures
+begun : (t : List ℕ) → Reads t t (leave_lines t) (fields keys run)
+unfolding leave_lines fields
+begun t = none_read_yet t (fields keys run)
+
+pub returns-in_err-number : goal.returns-in_err-number
+returns-in_err-number c = rw c.from_residual.ensures (fields_stop _ _ _ (begun _) c.in_err-number.ensures.0, refl, refl)
 
 pub returns : goal.returns
+unfolding printed
 returns c =
-    all_read ((lines (goal.at.returns c).After-read_field-car).there (not-false _ c.if-not-car.false)) c.run_leave.ensures
+    let g = c.leave-done.ensures in
+    all_read (fields_end _ (fields_on _ _ _ (begun _) c.in_ok-number.ensures)) (call_gives (leave_call _) g (refused_keeps (leave_call _) g) c.put_answer.ensures)

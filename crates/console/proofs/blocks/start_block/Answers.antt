@@ -1,50 +1,41 @@
--- `console::blocks::start_block` meets its contract: a block whose four fields are read is run, and any other is refused by 8.
-use mathlib.Core.Bool.{◌&&◌}
+-- `console::blocks::start_block` meets its contract: its four lines are read, and then it is run.
+use mathlib.Core.Path.{refl}
 use mathlib.Core.List.{List}
 use Prim.Native.Nat.{ℕ}
-use lib.ListN.{drop}
-use Rattle.lane.specs.Handover.{surface_key, end_key, limit_key, cycle_key}
+use lib.ListN.{get_or}
+use Rattle.text.specs.Groups.{Key}
+use Rattle.lane.specs.Handover.{road_keys}
 use Rattle.lane.specs.Call.{start_call}
-use Rattle.console.specs.Blocks.{Parsed, parsed, after_line, field, start_lines}
-use Rattle.console.proofs.Lines.{Reached, first_read, field_read, all_read, refuses_8}
-use Rattle.console.proofs.blocks.start_block.Goals.{After-read_field-cycle}
+use Rattle.console.specs.Blocks.{Parsed, parsed, start_lines}
+use Rattle.console.proofs.Lines.{Reads, none_read_yet, fields, fields_on, fields_stop, fields_end, all_read}
+use Rattle.console.specs.Output.{printed}
+use Rattle.console.proofs.Printing.{refused_keeps, call_gives}
 use Rattle.console.proofs.blocks.start_block.Goals as goal
 
-abbrev cycle_on : ℕ → ℕ → ℕ → ℕ → List ℕ → Parsed
-cycle_on surface end limit cycle t = parsed (start_call (record { surface = surface; end = end; limit = limit }) cycle) 0
+abbrev keys : List Key
+keys = road_keys
 
-abbrev limit_on : ℕ → ℕ → ℕ → List ℕ → Parsed
-limit_on surface end limit t = field cycle_key.name cycle_key.most t (cycle_on surface end limit)
+abbrev run : List ℕ → List ℕ → Parsed
+run ns t = parsed (start_call (record { surface = get_or ns 0 0; end = get_or ns 1 0; limit = get_or ns 2 0 }) (get_or ns 3 0)) 0
 
-abbrev end_on : ℕ → ℕ → List ℕ → Parsed
-end_on surface end t = field limit_key.name limit_key.most t (limit_on surface end)
+begun : (t : List ℕ) → Reads t t (start_lines t) (fields keys run)
+unfolding start_lines fields
+begun t = none_read_yet t (fields keys run)
 
-abbrev surface_on : ℕ → List ℕ → Parsed
-surface_on surface t = field end_key.name end_key.most t (end_on surface)
+pub returns-in_err-surface : goal.returns-in_err-surface
+returns-in_err-surface c = rw c.from_residual.ensures (fields_stop _ _ _ (begun _) c.in_err-surface.ensures.0, refl, refl)
 
-lines : (c : After-read_field-cycle) → let a = c.args in let s = c.read_field-surface.result in
-    let e = c.read_field-end.result in let m = c.read_field-limit.result in let n = c.read_field-cycle.result in
-    Reached a.input.now a.at n.next (after_line (drop a.at a.input.now) start_lines)
-    (((s.ok && e.ok) && m.ok) && n.ok) (cycle_on s.value e.value m.value n.value)
-unfolding start_lines
-lines c =
-    let a = c.args in
-    let block = first_read a.input.now a.at start_lines c.requires.after in
-    let surface = field_read surface_key.name surface_key.most surface_on c.read_field-surface.ensures block in
-    let end = field_read end_key.name end_key.most (end_on _) c.read_field-end.ensures surface in
-    let limit = field_read limit_key.name limit_key.most (limit_on _ _) c.read_field-limit.ensures end in
-    field_read cycle_key.name cycle_key.most (cycle_on _ _ _) c.read_field-cycle.ensures limit
+pub returns-in_err-end : goal.returns-in_err-end
+returns-in_err-end c = rw c.from_residual-in_err-end.ensures (fields_stop _ _ _ (fields_on _ _ _ (begun _) c.in_ok-surface.ensures) c.in_err-end.ensures.0, refl, refl)
 
-pub refused-requires : goal.refused-requires
-refused-requires c = c.requires.room
+pub returns-in_err-limit : goal.returns-in_err-limit
+returns-in_err-limit c = rw c.from_residual-in_err-limit.ensures (fields_stop _ _ _ (fields_on _ _ _ (fields_on _ _ _ (begun _) c.in_ok-surface.ensures) c.in_ok-end.ensures) c.in_err-limit.ensures.0, refl, refl)
 
-pub returns-then-not-surface-end : goal.returns-then-not-surface-end
-returns-then-not-surface-end c =
-    refuses_8 ((lines (goal.at.returns-then-not-surface-end c).After-read_field-cycle).missing c.if-not-surface-end.true) c.args.l.now c.refused.ensures
-
-pub run_start-requires : goal.run_start-requires
-run_start-requires c = c.requires.room
+pub returns-in_err-cycle : goal.returns-in_err-cycle
+returns-in_err-cycle c = rw c.from_residual-in_err-cycle.ensures (fields_stop _ _ _ (fields_on _ _ _ (fields_on _ _ _ (fields_on _ _ _ (begun _) c.in_ok-surface.ensures) c.in_ok-end.ensures) c.in_ok-limit.ensures) c.in_err-cycle.ensures.0, refl, refl)
 
 pub returns : goal.returns
+unfolding printed
 returns c =
-    all_read ((lines (goal.at.returns c).After-read_field-cycle).there c.if-not-surface-end.false) c.run_start.ensures
+    let g = c.start-done.ensures in
+    all_read (fields_end _ (fields_on _ _ _ (fields_on _ _ _ (fields_on _ _ _ (fields_on _ _ _ (begun _) c.in_ok-surface.ensures) c.in_ok-end.ensures) c.in_ok-limit.ensures) c.in_ok-cycle.ensures)) (call_gives (start_call _ _) g (refused_keeps (start_call _ _) g) c.put_answer.ensures)

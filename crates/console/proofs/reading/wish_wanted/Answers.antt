@@ -1,61 +1,55 @@
 -- `console::reading::wish_wanted` meets its contract: the sorts of wishes are tried in the order of the definition.
-use borrow.Author.Rules.{part_to_end}
-use mathlib.Core.Path.{◌≡◌, refl, sym, ap, ◌∙◌, subst}
+use mathlib.Core.Path.{◌≡◌, refl, ap, ◌∙◌}
 use mathlib.Core.Bool.{false}
-use mathlib.Core.List.{List}
-use Prim.Native.Nat.{ℕ, ◌-◌}
-use lib.ListN.{length, take, drop}
 use Rattle.text.specs.Ascii.{ascii}
-use Rattle.text.specs.Fields.{starts_with, is_word, signed_in, bits_in}
-use Rattle.text.proofs.ReadLaws.{starts_too_short}
+use Rattle.text.specs.Fields.{starts_with, is_word, signed_in}
+use Rattle.text.proofs.ReadLaws.{starts_pointwise}
 use Rattle.wish.specs.declared.Wish.TheVariants.{Acceleration, TargetSpeed}
-use Rattle.console.specs.Blocks.{units_wanted, float_wanted, wish_wanted, WantedAs}
-use Rattle.console.proofs.Wishing.{wanted_as_is}
-use Rattle.console.proofs.reading.wish_wanted.Goals.{After-digits-1, Else-is_word, Else-starts_with, Else-starts_with-2}
+use Rattle.console.specs.Blocks.{units_wanted, wish_wanted}
+use Rattle.console.proofs.Lines.{word_test}
+use Rattle.console.proofs.Wishing.{wanted_as_is, units_map, float_map}
+use Rattle.console.proofs.reading.wish_wanted.Goals.{Else-eq, In_default, In_default-strip_prefix}
 use Rattle.console.proofs.reading.wish_wanted.Goals as goal
 
-digits : (c : After-digits-1) → let v = c.args.value.now in take (length v - 6) (drop 6 v) ≡ drop 6 v
-digits c = part_to_end c.args.value.now 6
+no_hold : (c : Else-eq) → is_word (ascii "hold") c.args.value.now ≡ false
+no_hold c = word_test (ascii "hold") _ c.as_slice.ensures c.eq.ensures c.if-eq.false
 
-no_hold : (c : Else-is_word) → is_word (ascii "hold") c.args.value.now ≡ false
-no_hold c = sym c.is_word.ensures ∙ c.if-is_word.false
+no_units : (c : In_default) → starts_with (ascii "units:") c.args.value.now ≡ false
+no_units c = starts_pointwise (ascii "units:") _ ∙ c.in_default.ensures.cases
 
-no_units : (c : Else-starts_with) → starts_with (ascii "units:") c.args.value.now ≡ false
-no_units c = sym c.starts_with.ensures ∙ c.if-starts_with.false
+no_accel : (c : In_default-strip_prefix) → starts_with (ascii "accel:") c.args.value.now ≡ false
+no_accel c = starts_pointwise (ascii "accel:") _ ∙ c.in_default-strip_prefix.ensures.cases
 
-no_accel : (c : Else-starts_with-2) → starts_with (ascii "accel:") c.args.value.now ≡ false
-no_accel c = sym c.starts_with-2.ensures ∙ c.if-starts_with-2.false
-
-pub returns-then-is_word : goal.returns-then-is_word
+pub returns-then-eq : goal.returns-then-eq
 unfolding wish_wanted
-returns-then-is_word c = rw (sym c.is_word.ensures ∙ c.if-is_word.true) (wanted_as_is refl)
+returns-then-eq c = rw (word_test (ascii "hold") _ c.as_slice.ensures c.eq.ensures c.if-eq.true) (wanted_as_is refl)
 
-pub returns-then-value-lt6 : goal.returns-then-value-lt6
+pub returns-in-Some : goal.returns-in-Some
 unfolding wish_wanted
-returns-then-value-lt6 c =
-    let v = c.args.value.now in
-    rw (no_hold (goal.at.returns-then-value-lt6 c).Else-is_word, starts_too_short (ascii "units:") v c.if-value-lt6.true, starts_too_short (ascii "accel:") v c.if-value-lt6.true, starts_too_short (ascii "speed:") v c.if-value-lt6.true)
-    (wanted_as_is refl)
+returns-in-Some c =
+    let found = c.in-Some.ensures.cases in
+    rw (no_hold (goal.at.returns-in-Some c).Else-eq, starts_pointwise (ascii "units:") c.args.value.now ∙ found.0)
+    (wanted_as_is (units_map _ c.map.ensures.cases ∙ ap units_wanted (c.read_signed.ensures ∙ ap signed_in found.1)))
 
-pub returns-then-starts_with : goal.returns-then-starts_with
+pub returns-in-Some-strip_prefix : goal.returns-in-Some-strip_prefix
 unfolding wish_wanted
-returns-then-starts_with c =
-    rw (no_hold (goal.at.returns-then-starts_with c).Else-is_word, sym c.starts_with.ensures ∙ c.if-starts_with.true)
-    (wanted_as_is (c.units_wanted.ensures ∙ ap (λ (x : List ℕ). units_wanted (signed_in x)) (digits (goal.at.returns-then-starts_with c).After-digits-1)))
+returns-in-Some-strip_prefix c =
+    let p = goal.at.returns-in-Some-strip_prefix c in
+    let found = c.in-Some-strip_prefix.ensures.cases in
+    rw (no_hold p.Else-eq, no_units p.In_default, starts_pointwise (ascii "accel:") c.args.value.now ∙ found.0)
+    (rw (← found.1, ← c.read_bits.ensures) (float_map (λ y. Acceleration y) _ c.map-in-Some-strip_prefix.ensures.cases))
 
-pub returns-then-starts_with-2 : goal.returns-then-starts_with-2
+pub returns-in-Some-strip_prefix-2 : goal.returns-in-Some-strip_prefix-2
 unfolding wish_wanted
-returns-then-starts_with-2 c =
-    rw (no_hold (goal.at.returns-then-starts_with-2 c).Else-is_word, no_units (goal.at.returns-then-starts_with-2 c).Else-starts_with, sym c.starts_with-2.ensures ∙ c.if-starts_with-2.true)
-    (subst (λ (x : List ℕ). WantedAs (float_wanted (λ y. Acceleration y) (bits_in x)) c.float_wanted.result) (digits (goal.at.returns-then-starts_with-2 c).After-digits-1) c.float_wanted.ensures)
-
-pub returns-then-starts_with-3 : goal.returns-then-starts_with-3
-unfolding wish_wanted
-returns-then-starts_with-3 c =
-    rw (no_hold (goal.at.returns-then-starts_with-3 c).Else-is_word, no_units (goal.at.returns-then-starts_with-3 c).Else-starts_with, no_accel (goal.at.returns-then-starts_with-3 c).Else-starts_with-2, sym c.starts_with-3.ensures ∙ c.if-starts_with-3.true)
-    (subst (λ (x : List ℕ). WantedAs (float_wanted (λ y. TargetSpeed y) (bits_in x)) c.float_wanted-then-starts_with-3.result) (digits (goal.at.returns-then-starts_with-3 c).After-digits-1) c.float_wanted-then-starts_with-3.ensures)
+returns-in-Some-strip_prefix-2 c =
+    let p = goal.at.returns-in-Some-strip_prefix-2 c in
+    let found = c.in-Some-strip_prefix-2.ensures.cases in
+    rw (no_hold p.Else-eq, no_units p.In_default, no_accel p.In_default-strip_prefix, starts_pointwise (ascii "speed:") c.args.value.now ∙ found.0)
+    (rw (← found.1, ← c.read_bits-in-Some-strip_prefix-2.ensures) (float_map (λ y. TargetSpeed y) _ c.map-in-Some-strip_prefix-2.ensures.cases))
 
 pub returns : goal.returns
 unfolding wish_wanted
 returns c =
-    rw (no_hold (goal.at.returns c).Else-is_word, no_units (goal.at.returns c).Else-starts_with, no_accel (goal.at.returns c).Else-starts_with-2, sym c.starts_with-3.ensures ∙ c.if-starts_with-3.false) (wanted_as_is refl)
+    let p = goal.at.returns c in
+    rw (no_hold p.Else-eq, no_units p.In_default, no_accel p.In_default-strip_prefix, starts_pointwise (ascii "speed:") c.args.value.now ∙ c.in_default-strip_prefix-2.ensures.cases)
+    (wanted_as_is refl)

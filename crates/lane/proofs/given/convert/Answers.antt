@@ -3,17 +3,24 @@ use mathlib.Core.Path.{◌≡◌, refl, sym, ap, ◌∙◌}
 use mathlib.Core.Bool.{Bool, true, false, cond, true≢false}
 use Prim.Native.Nat.{ℕ, ◌≤◌}
 use native.Mathlib.Omega.{arith}
-use lib.ListN.{length, get_or, take}
+use Rattle.std.specs.Prelude.{Option}
+use borrow.Author.Rules.{rules}
+use mir.Syntax.{w32}
+use mir.Val.{SFits}
+use mir.Facts.{to_z-of_z}
+use lib.ListN.{length, get_or, take, set}
 use Rattle.wish.specs.Units.{units_of}
 use Rattle.wish.specs.declared.Wish.{Wish}
 use Rattle.wish.specs.declared.Wish.TheVariants.{Hold}
+use Rattle.lane.specs.Refusals.{number_of}
 use Rattle.lane.specs.Layout.{records_in}
-use Rattle.lane.specs.Wishes.{any_outside}
-use Rattle.lane.specs.Given.{wish_made, is_unknown, wishes_made, any_unknown, wishes_no, wishes_given}
+use Rattle.lane.specs.Wishes.{is_outside, units_in, any_outside}
+use Rattle.lane.specs.Given.{wish_made, is_unknown, made_wish, wishes_made, any_unknown, wishes_no, wishes_given}
+use Rattle.lane.proofs.checks.Records.{records_long}
 use Rattle.lane.proofs.driving.Ready.{ready_few, ready_narrow}
 use Rattle.lane.proofs.driving.Converting.{converting_start, outside_here, converted_here, none_outside, all_converted}
 use Rattle.lane.proofs.driving.Making.{few_sorts, few_values, by_sorts, unknown_here, known_here, all_known, unfit_no, unmade_first, unfit_is, none_unfit, made_take, made_at, made_long}
-use Rattle.lane.proofs.given.convert.Goals.{After-convert_one, After-is_unknown, Start}
+use Rattle.lane.proofs.given.convert.Goals.{After-units_at, After-make, Start}
 use Rattle.lane.proofs.given.convert.Goals as goal
 
 -- what the contract speaks of
@@ -25,15 +32,15 @@ module _ (s : Start) where
   outside = any_outside (take s.args.count (records_in s.args.l.now)) (wishes_given s.args.count s.args.sorts.now s.args.values.now)
 
 -- whether the wish at the loop's place cannot be made
-module _ (k : After-is_unknown) where
-  told : (t : Bool) → k.is_unknown.result ≡ t → is_unknown (wish_made (get_or k.args.sorts.now k.loop-i.i 0) (get_or k.args.values.now k.loop-i.i 0)) ≡ t
-  told t e = sym (k.is_unknown.ensures ∙ k.make-made.ensures.unknown) ∙ e
+module _ (k : After-make) where
+  told : (m : Option Wish) → k.make.result ≡ m → is_unknown (wish_made (get_or k.args.sorts.now k.loop-i.i 0) (get_or k.args.values.now k.loop-i.i 0)) ≡ is_unknown m
+  told m e = sym k.make.ensures.unknown ∙ ap is_unknown e
 
--- what `convert_one` has given there
-module _ (u : After-convert_one) where
-  wish_is : (v : ℕ) → units_of u.wish_of.result v ≡ units_of (get_or (wishes_made u.args.sorts.now u.args.values.now) u.loop-i.i Hold) v
+-- the wish there
+module _ (u : After-units_at) where
+  wish_is : (v : ℕ) → units_of u.in-Some.w v ≡ units_of (get_or (wishes_made u.args.sorts.now u.args.values.now) u.loop-i.i Hold) v
   wish_is v =
-      ap (λ (w : Wish). units_of w v) u.wish_of.ensures ∙ u.make-made.ensures.units v
+      ap (λ (m : Option Wish). units_of (made_wish m) v) (sym u.in-Some.is) ∙ u.make.ensures.units v
       ∙ ap (λ (w : Wish). units_of w v) (made_at u.args.sorts.now u.args.values.now u.loop-i.i (omega arith) (omega arith))
 
 -- a refusal by `unfit`, where one cannot be made or is outside its range
@@ -48,12 +55,12 @@ module _ (s : Start) where
 pub returns-then-sorts-count : goal.returns-then-sorts-count
 returns-then-sorts-count c =
     let a = c.args in
-    record { value = unmade_first (no (goal.at.returns-then-sorts-count c).Start) 12 (λ z. omega arith) (sym (few_sorts a.count a.sorts.now a.values.now (omega arith))) (outside (goal.at.returns-then-sorts-count c).Start); units_after = λ e. absurd (omega arith) }
+    record { number = unmade_first (no (goal.at.returns-then-sorts-count c).Start) 12 (λ z. omega arith) (sym (few_sorts a.count a.sorts.now a.values.now (omega arith))) (outside (goal.at.returns-then-sorts-count c).Start); units = tt }
 
 pub returns-then-values-count : goal.returns-then-values-count
 returns-then-values-count c =
     let a = c.args in
-    record { value = unmade_first (no (goal.at.returns-then-values-count c).Start) 12 (λ z. omega arith) (sym (few_values a.count a.sorts.now a.values.now (omega arith) (omega arith))) (outside (goal.at.returns-then-values-count c).Start); units_after = λ e. absurd (omega arith) }
+    record { number = unmade_first (no (goal.at.returns-then-values-count c).Start) 12 (λ z. omega arith) (sym (few_values a.count a.sorts.now a.values.now (omega arith) (omega arith))) (outside (goal.at.returns-then-values-count c).Start); units = tt }
 
 pub loop-i-init : goal.loop-i-init
 loop-i-init c =
@@ -63,8 +70,8 @@ loop-i-init c =
       (sorts, values),
       (
         refl,
-        converting_start _ _ _ _ (ready_few a.l.now a.count c.requires) c.sized.ensures.1
-            (made_long a.count a.sorts.now a.values.now sorts values) c.sized-2.ensures,
+        converting_start _ _ _ _ (ready_few a.l.now a.count c.requires) (records_long _ (omega arith))
+            (made_long a.count a.sorts.now a.values.now sorts values) (omega arith),
       ),
     )
 
@@ -77,39 +84,38 @@ bounds-values-i c = omega arith
 pub unfit-requires : goal.unfit-requires
 unfit-requires c = c.loop-i.invariant.0
 
-pub returns-then-is_unknown : goal.returns-then-is_unknown
-returns-then-is_unknown c =
+pub returns-in_default : goal.returns-in_default
+returns-in_default c =
     let a = c.args in
     let inv = c.loop-i.invariant in
-    let here = unknown_here a.count a.sorts.now a.values.now inv.0.0 inv.0.1 c.loop-i.i inv.1.0 (omega arith) (told (goal.at.returns-then-is_unknown c).After-is_unknown _ c.if-is_unknown.true) in
-    let r = refused (goal.at.returns-then-is_unknown c).Start c.loop-i.invariant.0 c.unfit.result c.unfit.ensures (λ e. absurd (true≢false (sym here ∙ e))) in
-    record { value = r.0; units_after = λ e. absurd (r.1 e) }
+    let here = unknown_here a.count a.sorts.now a.values.now inv.0.0 inv.0.1 c.loop-i.i inv.1.0 (omega arith) (told (goal.at.returns-in_default c).After-make _ c.in_default.is) in
+    let r = refused (goal.at.returns-in_default c).Start c.loop-i.invariant.0 (number_of c.unfit.result) c.unfit.ensures (λ e. absurd (true≢false (sym here ∙ e))) in
+    record { number = r.0; units = tt }
 
-pub convert_one-requires : goal.convert_one-requires
-convert_one-requires c =
+pub units_at-requires : goal.units_at-requires
+units_at-requires c =
     let m = c.loop-i.invariant.1.1 in
     (omega (arith, m.most), (ready_narrow c.args.l.now c.args.count c.requires c.loop-i.i (omega arith) m.carriers).slow)
 
-pub unfit-requires-then-convert_one : goal.unfit-requires-then-convert_one
-unfit-requires-then-convert_one c = c.loop-i.invariant.0
+pub unfit-requires-in_default-units_at : goal.unfit-requires-in_default-units_at
+unfit-requires-in_default-units_at c = c.loop-i.invariant.0
 
-pub returns-then-convert_one : goal.returns-then-convert_one
-returns-then-convert_one c =
-    let here = outside_here c.loop-i.invariant.1.1 Hold c.wish_of.result (wish_is (goal.at.returns-then-convert_one c).After-convert_one) _ c.convert_one.ensures.value (omega arith) c.if-convert_one.true in
-    let r = refused (goal.at.returns-then-convert_one c).Start c.loop-i.invariant.0 c.unfit-then-convert_one.result c.unfit-then-convert_one.ensures (λ e. rw made_take at (sym here)) in
-    record { value = r.0; units_after = λ e. absurd (r.1 e) }
-
-pub overflow_add-i : goal.overflow_add-i
-overflow_add-i c = omega (arith, c.loop-i.invariant.1.1.most)
+pub returns-in_default-units_at : goal.returns-in_default-units_at
+returns-in_default-units_at c =
+    let here = outside_here c.loop-i.invariant.1.1 Hold c.in-Some.w (wish_is (goal.at.returns-in_default-units_at c).After-units_at) _ c.units_at.ensures (omega arith) c.in_default-units_at.is in
+    let r = refused (goal.at.returns-in_default-units_at c).Start c.loop-i.invariant.0 (number_of c.unfit-in_default-units_at.result) c.unfit-in_default-units_at.ensures (λ e. rw made_take at here) in
+    record { number = r.0; units = tt }
 
 pub loop-i-preserved : goal.loop-i-preserved
 loop-i-preserved c =
     let a = c.args in
-    let inv = c.loop-i.invariant in (
+    let inv = c.loop-i.invariant in
+    let f : SFits w32 c.in-Some-units_at.z = search rules in (
       inv.0,
       (
-        known_here a.count a.sorts.now a.values.now inv.0.0 inv.0.1 c.loop-i.i inv.1.0 (omega arith) (told (goal.at.loop-i-preserved c).After-is_unknown _ c.if-is_unknown.false),
-        converted_here inv.1.1 Hold c.wish_of.result (wish_is (goal.at.loop-i-preserved c).After-convert_one) _ c.convert_one.ensures.value (omega arith) c.if-convert_one.false _ c.convert_one.ensures.units_after,
+        known_here a.count a.sorts.now a.values.now inv.0.0 inv.0.1 c.loop-i.i inv.1.0 (omega arith) (told (goal.at.loop-i-preserved c).After-make _ c.in-Some.is),
+        converted_here inv.1.1 Hold c.in-Some.w (wish_is (goal.at.loop-i-preserved c).After-units_at) _ c.units_at.ensures (omega arith) (ap is_outside c.in-Some-units_at.is) _
+            (ap (set c.loop-i.units c.loop-i.i) (to_z-of_z f ∙ sym (ap units_in c.in-Some-units_at.is))),
       ),
     )
 
@@ -120,7 +126,7 @@ returns c =
     let m = inv.1.1 in
     let known = all_known a.count a.sorts.now a.values.now inv.0.0 inv.0.1 c.loop-i.i inv.1.0 (omega (arith, m.place)) in
     record {
-      value = none_unfit (no (goal.at.returns c).Start) (by_sorts a.count a.sorts.now a.values.now inv.0.0 inv.0.1 false known) (outside (goal.at.returns c).Start)
-          (rw made_take at (sym (none_outside m (omega arith))));
-      units_after = λ e. rw made_take at (all_converted m (omega arith));
+      number = none_unfit (no (goal.at.returns c).Start) (by_sorts a.count a.sorts.now a.values.now inv.0.0 inv.0.1 false known) (outside (goal.at.returns c).Start)
+          (rw made_take at (none_outside m (omega arith)));
+      units = rw made_take at (all_converted m (omega arith));
     }

@@ -1,5 +1,5 @@
 use mathlib.Core.Path.{◌≡◌}
-use Prim.Native.Nat.{◌-◌, ◌≤◌}
+use Prim.Native.Nat.{◌≤◌}
 use lib.ListN.{length, take}
 use lib.Seq.{slice}
 use Rattle.lane.specs.Layout.{records_in}
@@ -12,6 +12,3 @@ invariant-loop-i l =
     ((l.count ≤ length l.sorts) × (l.count ≤ length l.values))
     × ((any_unknown (take l.count l.sorts) (take l.count l.values) ≡ any_unknown (slice l.i l.count l.sorts) (slice l.i l.count l.values))
     × Converting l.count (records_in l.l) (wishes_made l.sorts l.values) l.units l.i)
-
-abbrev pub decreases-loop-i : goal.decreases-loop-i
-decreases-loop-i l = l.count - l.i

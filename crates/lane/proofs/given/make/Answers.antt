@@ -1,37 +1,34 @@
 -- `lane::given::make` meets its contract, by the sorts in turn.
-use borrow.Author.Tests.{eq-eqb, ne_eqb}
+use borrow.Author.Tests.{ne_eqb}
 use mathlib.Core.Path.{◌≡◌, refl, ap}
-use Prim.Native.Nat.{ℕ}
+use native.Mathlib.Omega.{arith}
+use Rattle.std.specs.Prelude.{Option, None}
 use Rattle.wish.specs.Units.{units_of}
-use Rattle.lane.specs.declared.given.Made.{Made}
+use Rattle.wish.specs.declared.Wish.{Wish}
 use Rattle.lane.specs.Given.{wish_made, is_unknown, made_wish}
 use Rattle.lane.proofs.given.make.Goals as goal
 
--- what is made is the wish itself
-as_is : {m r : Made} → r ≡ m → (is_unknown r ≡ is_unknown m) × ((v : ℕ) → units_of (made_wish r) v ≡ units_of (made_wish m) v)
-as_is e = (ap is_unknown e, λ v. ap (λ (x : Made). units_of (made_wish x) v) e)
-
-pub returns-then-sort-eq0 : goal.returns-then-sort-eq0
+pub returns-in-0 : goal.returns-in-0
 unfolding wish_made
-returns-then-sort-eq0 c =
-    record { unknown = rw (eq-eqb _ _ c.if-sort-eq0.true) (as_is c.make_units.ensures).0; units = rw (eq-eqb _ _ c.if-sort-eq0.true) (as_is c.make_units.ensures).1 }
+returns-in-0 c =
+    let e = c.make_units.ensures in
+    record { unknown = rw (c.in-0.is) (ap is_unknown e); units = rw (c.in-0.is) (λ v. ap (λ (x : Option Wish). units_of (made_wish x) v) e) }
 
-pub returns-then-sort-eq1 : goal.returns-then-sort-eq1
+pub returns-in-1 : goal.returns-in-1
 unfolding wish_made
-returns-then-sort-eq1 c =
-    record { unknown = rw (ne_eqb _ _ c.if-sort-eq0.false, eq-eqb _ _ c.if-sort-eq1.true) (refl); units = rw (ne_eqb _ _ c.if-sort-eq0.false, eq-eqb _ _ c.if-sort-eq1.true) (c.acceleration_of.ensures) }
+returns-in-1 c = record { unknown = rw (c.in-1.is) refl; units = rw (c.in-1.is) c.acceleration_of.ensures }
 
-pub returns-then-sort-eq2 : goal.returns-then-sort-eq2
+pub returns-in-2 : goal.returns-in-2
 unfolding wish_made
-returns-then-sort-eq2 c =
-    record { unknown = rw (ne_eqb _ _ c.if-sort-eq0.false, ne_eqb _ _ c.if-sort-eq1.false, eq-eqb _ _ c.if-sort-eq2.true) (refl); units = rw (ne_eqb _ _ c.if-sort-eq0.false, ne_eqb _ _ c.if-sort-eq1.false, eq-eqb _ _ c.if-sort-eq2.true) (c.target_of.ensures) }
+returns-in-2 c = record { unknown = rw (c.in-2.is) refl; units = rw (c.in-2.is) c.target_of.ensures }
 
-pub returns-then-sort-eq3 : goal.returns-then-sort-eq3
+pub returns-in-3 : goal.returns-in-3
 unfolding wish_made
-returns-then-sort-eq3 c =
-    record { unknown = rw (ne_eqb _ _ c.if-sort-eq0.false, ne_eqb _ _ c.if-sort-eq1.false, ne_eqb _ _ c.if-sort-eq2.false, eq-eqb _ _ c.if-sort-eq3.true) (refl); units = rw (ne_eqb _ _ c.if-sort-eq0.false, ne_eqb _ _ c.if-sort-eq1.false, ne_eqb _ _ c.if-sort-eq2.false, eq-eqb _ _ c.if-sort-eq3.true) (λ v. refl) }
+returns-in-3 c = record { unknown = rw (c.in-3.is) refl; units = rw (c.in-3.is) (λ v. refl) }
 
-pub returns : goal.returns
+pub returns-in_default : goal.returns-in_default
 unfolding wish_made
-returns c =
-    record { unknown = rw (ne_eqb _ _ c.if-sort-eq0.false, ne_eqb _ _ c.if-sort-eq1.false, ne_eqb _ _ c.if-sort-eq2.false, ne_eqb _ _ c.if-sort-eq3.false) (refl); units = rw (ne_eqb _ _ c.if-sort-eq0.false, ne_eqb _ _ c.if-sort-eq1.false, ne_eqb _ _ c.if-sort-eq2.false, ne_eqb _ _ c.if-sort-eq3.false) (λ v. refl) }
+returns-in_default c =
+    let s = c.args.sort in
+    let none : wish_made s c.args.value ≡ None = rw (ne_eqb s 0 (λ e. omega arith), ne_eqb s 1 (λ e. omega arith), ne_eqb s 2 (λ e. omega arith), ne_eqb s 3 (λ e. omega arith)) refl in
+    record { unknown = rw none refl; units = rw none (λ v. refl) }

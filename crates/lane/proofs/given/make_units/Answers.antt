@@ -1,34 +1,26 @@
--- `lane::given::make_units` meets its contract: a number below 2^15 is itself, one of the last 2^15 its difference to 2^32, negated.
-use borrow.Author.Tests.{lt-ltb, le-ltb}
-use mathlib.Core.Path.{refl}
-use native.Mathlib.Omega.{arith}
-use mir.Syntax.{w16}
-use mir.Facts.{to_z_pos}
-use Rattle.lane.specs.Given.{units_made}
-use Rattle.lane.proofs.driving.Numbers.{size_fits, negated_fits, cast_fits, cast_read}
+-- A number that 16 bits hold with its sign is a wish of as many units.
+use mathlib.Core.Path.{◌≡◌, sym, ◌∙◌}
+use mir.Syntax.{w16, w32}
+use mir.Val.{SFits, to_z, of_z}
+use mir.Facts.{to_z-of_z}
+use Rattle.std.proofs.lemmas.Result.{OkIff-at_ok, OkIff-at_err}
+use Rattle.lane.proofs.driving.Numbers.{units_read, none_read}
+use Rattle.lane.proofs.given.make_units.Goals.{After-cast_signed}
 use Rattle.lane.proofs.given.make_units.Goals as goal
 
-pub returns-then-value-lt32768 : goal.returns-then-value-lt32768
-unfolding units_made
-returns-then-value-lt32768 c = rw (to_z_pos w16 {n = c.args.value} c.if-value-lt32768.true, lt-ltb c.args.value 32768 c.if-value-lt32768.true) refl
+-- the number with its sign, as `try_from` reads it
+read : (c : After-cast_signed) → to_z w32 (of_z w32 c.cast_signed.result) ≡ to_z w32 c.args.value
+read c = to_z-of_z {w = w32} (record { sfits = c.cast_signed.type_inv }) ∙ c.cast_signed.ensures
 
-pub returns-then-value-lt4294934528 : goal.returns-then-value-lt4294934528
-unfolding units_made
-returns-then-value-lt4294934528 c =
-    let v = c.args.value in
-    rw (le-ltb v 32768 c.if-value-lt32768.false, lt-ltb v 4294934528 c.if-value-lt4294934528.true) refl
+pub returns-in-Ok : goal.returns-in-Ok
+returns-in-Ok c =
+    let r = OkIff-at_ok _ _ _ _ c.try_from.ensures c.in-Ok.is in
+    let is = read (goal.at.returns-in-Ok c).After-cast_signed in
+    let fits : SFits w16 (to_z w32 c.args.value) = rw is at r.0 in
+    let units : c.in-Ok.units ≡ to_z w32 c.args.value = r.1 ∙ is in
+    rw (units, to_z-of_z fits) (sym (units_read c.args.value c.ranges.value.fits fits))
 
-pub overflow_sub-size : goal.overflow_sub-size
-overflow_sub-size c = size_fits c.args.value c.if-value-lt4294934528.false (omega arith)
-
-pub overflow_sub-result : goal.overflow_sub-result
-overflow_sub-result c = negated_fits c.args.value c.if-value-lt4294934528.false (omega arith)
-
-pub overflow_cast-result-2 : goal.overflow_cast-result-2
-overflow_cast-result-2 c = cast_fits c.args.value c.if-value-lt4294934528.false (omega arith)
-
-pub returns : goal.returns
-unfolding units_made
-returns c =
-    let v = c.args.value in
-    rw (cast_read v c.if-value-lt4294934528.false (omega arith), le-ltb v 32768 c.if-value-lt32768.false, le-ltb v 4294934528 c.if-value-lt4294934528.false) refl
+pub returns-in-Err : goal.returns-in-Err
+returns-in-Err c =
+    let not = OkIff-at_err _ _ _ _ c.try_from.ensures c.in-Err.is in
+    sym (none_read c.args.value c.ranges.value.fits (rw (read (goal.at.returns-in-Err c).After-cast_signed) at not))

@@ -10,7 +10,7 @@ use Rattle.lane.proofs.checks.Tables.{put_start, put_next, put_all}
 use Rattle.lane.proofs.layout.put_in_force.Goals as goal
 
 pub loop-code-init : goal.loop-code-init
-loop-code-init c = put_start 1 9 _ _ c.sized.ensures.0
+loop-code-init c = put_start 1 9 _ _ (omega arith)
 
 pub loop-code-preserved : goal.loop-code-preserved
 loop-code-preserved c =

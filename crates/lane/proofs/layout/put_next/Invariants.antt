@@ -1,5 +1,4 @@
 use mathlib.Core.List.{map}
-use Prim.Native.Nat.{◌-◌}
 use Rattle.lane.specs.Surface.{row_of}
 use Rattle.lane.specs.Layout.{surface_in}
 use Rattle.lane.proofs.checks.Tables.{Put}
@@ -7,6 +6,3 @@ use Rattle.lane.proofs.layout.put_next.Given as goal
 
 abbrev pub invariant-loop-code : goal.invariant-loop-code
 invariant-loop-code l = Put 9 1 (row_of (map surface_in l.table)) l.initial.l l.l l.code
-
-abbrev pub decreases-loop-code : goal.decreases-loop-code
-decreases-loop-code l = 8 - l.code

@@ -11,4 +11,5 @@ returns c =
     let second = put_next first (key_at carrier_keys 1) x.position _ _ (c.put_decimal_line-position.ensures.out_after, c.put_decimal_line-position.ensures.value) in
     let third = put_next second (key_at carrier_keys 2) x.speed _ _ (c.put_decimal_line-speed.ensures.out_after, c.put_decimal_line-speed.ensures.value) in
     let fourth = put_next third (key_at carrier_keys 3) x.length _ _ (c.put_decimal_line-length.ensures.out_after, c.put_decimal_line-length.ensures.value) in
-    record { out_after = (group_put (put_next fourth (key_at carrier_keys 4) x.rate _ _ (c.put_decimal_line.ensures.out_after, c.put_decimal_line.ensures.value)) c.requires).0; value = (group_put (put_next fourth (key_at carrier_keys 4) x.rate _ _ (c.put_decimal_line.ensures.out_after, c.put_decimal_line.ensures.value)) c.requires).1 }
+    let all = group_put (put_next fourth (key_at carrier_keys 4) x.rate _ _ (c.put_decimal_line.ensures.out_after, c.put_decimal_line.ensures.value)) c.requires in
+    record { out_after = all.0; value = all.1 }

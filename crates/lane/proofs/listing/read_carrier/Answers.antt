@@ -1,13 +1,21 @@
--- `lane::listing::read_carrier` meets its contract: each line is read where the one before ends.
-use Rattle.text.proofs.GroupLaws.{key_at, group_first, group_next, group_read}
-use Rattle.lane.specs.Listing.{carrier_keys}
+-- Each line is read where the one before ends.
+use Rattle.text.proofs.GroupLaws.{group_end, group_stop, group_on, group_past}
 use Rattle.lane.proofs.listing.read_carrier.Goals as goal
 
+pub returns-in_err-number : goal.returns-in_err-number
+returns-in_err-number c = rw c.from_residual.ensures (group_stop _ _ _ c.in_err-number.ensures.0)
+
+pub returns-in_err-position : goal.returns-in_err-position
+returns-in_err-position c = rw c.from_residual-in_err-position.ensures (group_past _ _ _ c.in_ok-number.ensures (group_stop _ _ _ c.in_err-position.ensures.0))
+
+pub returns-in_err-speed : goal.returns-in_err-speed
+returns-in_err-speed c = rw c.from_residual-in_err-speed.ensures (group_past _ _ _ c.in_ok-number.ensures (group_past _ _ _ c.in_ok-position.ensures (group_stop _ _ _ c.in_err-speed.ensures.0)))
+
+pub returns-in_err-length : goal.returns-in_err-length
+returns-in_err-length c = rw c.from_residual-in_err-length.ensures (group_past _ _ _ c.in_ok-number.ensures (group_past _ _ _ c.in_ok-position.ensures (group_past _ _ _ c.in_ok-speed.ensures (group_stop _ _ _ c.in_err-length.ensures.0))))
+
+pub returns-in_err-rate : goal.returns-in_err-rate
+returns-in_err-rate c = rw c.from_residual-in_err-rate.ensures (group_past _ _ _ c.in_ok-number.ensures (group_past _ _ _ c.in_ok-position.ensures (group_past _ _ _ c.in_ok-speed.ensures (group_past _ _ _ c.in_ok-length.ensures (group_stop _ _ _ c.in_err-rate.ensures.0)))))
+
 pub returns : goal.returns
-returns c =
-    let a = c.args in
-    let first = group_first (key_at carrier_keys 0) a.text.now a.at c.read_field-number.result c.read_field-number.ensures in
-    let second = group_next first (key_at carrier_keys 1) c.read_field-position.result c.read_field-position.ensures in
-    let third = group_next second (key_at carrier_keys 2) c.read_field-speed.result c.read_field-speed.ensures in
-    let fourth = group_next third (key_at carrier_keys 3) c.read_field-length.result c.read_field-length.ensures in
-    group_read (group_next fourth (key_at carrier_keys 4) c.read_field-rate.result c.read_field-rate.ensures)
+returns c = group_on _ _ _ c.in_ok-number.ensures (group_on _ _ _ c.in_ok-position.ensures (group_on _ _ _ c.in_ok-speed.ensures (group_on _ _ _ c.in_ok-length.ensures (group_on _ _ _ c.in_ok-rate.ensures (group_end _)))))

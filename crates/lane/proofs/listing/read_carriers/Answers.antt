@@ -1,31 +1,22 @@
--- `lane::listing::read_carriers` meets its contract: the carriers read stand in the first records, and the others are still in the text.
+-- The carriers read stand in the first records, and the others are still in the text.
 use mathlib.Core.Path.{refl}
 use native.Mathlib.Omega.{arith}
-use borrow.Author.Tests.{not-false, not-true}
-use Rattle.lane.specs.Layout.{records_in}
-use Rattle.lane.proofs.checks.Records.{same_head}
+use Rattle.lane.proofs.checks.Records.{same_head, records_long}
 use Rattle.lane.proofs.calls.Read.{carriers_start, carriers_on, carriers_stop, carriers_end}
 use Rattle.lane.proofs.listing.read_carriers.Goals as goal
 
-pub loop-i-init : goal.loop-i-init
-loop-i-init c =
-    let a = c.args in
-    ((refl, refl), carriers_start a.text.now a.at a.count (records_in a.l.now) c.sized.ensures.1)
+pub loop-place-init : goal.loop-place-init
+loop-place-init c = ((refl, refl), carriers_start _ _ _ (records_long _ (omega arith)))
 
-pub returns-then-not-lines : goal.returns-then-not-lines
-returns-then-not-lines c =
-    let read = c.read_carrier-lines in
-    let inv = c.loop-i.invariant in
-    record { l_unchanged = inv.0; text_value = carriers_stop inv.1 (omega arith) read.result.ok read.result.carrier read.result.next read.ensures (not-true _ c.if-not-lines.true); l_len = inv.1.long }
+pub returns-in_err-carrier-clause-text_value : goal.returns-in_err-carrier-clause-text_value
+returns-in_err-carrier-clause-text_value c =
+    rw c.from_residual.ensures (carriers_stop c.loop-place.invariant.1 (omega arith) c.in_err-carrier.ensures)
 
-pub loop-i-preserved : goal.loop-i-preserved
-loop-i-preserved c =
-    let read = c.read_carrier-lines in
-    let inv = c.loop-i.invariant in
-    let on = carriers_on inv.1 (omega arith) read.result.ok read.result.carrier read.result.next read.ensures (omega arith) (not-false _ c.if-not-lines.false) in
+pub loop-place-preserved : goal.loop-place-preserved
+loop-place-preserved c =
+    let inv = c.loop-place.invariant in
+    let on = carriers_on inv.1 (omega arith) _ (omega arith) c.in_ok-carrier.ensures in
     (same_head c.put_carrier.ensures.l_unchanged inv.0, rw c.put_carrier.ensures.l_after on)
 
-pub returns : goal.returns
-returns c =
-    let inv = c.loop-i.invariant in
-    record { l_unchanged = inv.0; text_value = carriers_end inv.1 (omega arith); l_len = inv.1.long }
+pub returns-clause-text_value : goal.returns-clause-text_value
+returns-clause-text_value c = carriers_end c.loop-place.invariant.1 (omega arith)

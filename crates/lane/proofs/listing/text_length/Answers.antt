@@ -1,4 +1,4 @@
--- `lane::listing::text_length` meets its contract: the length so far and that of the carriers still to see make up the whole's.
+-- The length so far and that of the carriers still to see make up the whole's.
 use borrow.Author.Rules.{rules}
 use mathlib.Core.Path.{◌≡◌, refl, ap, ◌∙◌}
 use Prim.Native.Nat.{◌≤◌}
@@ -22,24 +22,20 @@ pub overflow_add-n : goal.overflow_add-n
 overflow_add-n c = omega (arith, digits_64 c.figures_of-f.result.count (search rules))
 
 pub loop-i-init : goal.loop-i-init
-loop-i-init c =
-    let digits = digits_64 c.figures_of-f.result.count (search rules) in
-    (c.figures_of-f.ensures.l_len, (few (goal.at.loop-i-init c).After-figures_of-f, (omega arith, (omega (arith, digits), refl))))
-
-pub overflow_add-n-in-loop-i : goal.overflow_add-n-in-loop-i
-overflow_add-n-in-loop-i c = omega (arith, c.carrier_length-n.ensures)
+loop-i-init c = (omega (arith, digits_64 c.figures_of-f.result.count (search rules)), refl)
 
 pub loop-i-preserved : goal.loop-i-preserved
 loop-i-preserved c =
-    let records = records_in c.args.l.now in
-    let next = length_next none records c.loop-i.i c.figures_of-f.result.count (omega arith) (omega arith) in
+    let count : c.figures_of-f.result.count ≤ 64 = few (goal.at.loop-i-preserved c).After-figures_of-f in
+    let next = length_next none (records_in c.args.l.now) c.loop-i.i c.figures_of-f.result.count (omega arith) (omega (arith, c.figures_of-f.ensures.l_len)) in
     let here = ap (λ (x : Carrier). length (carrier_text x)) c.carrier_at.ensures in
-    (c.loop-i.invariant.0, (c.loop-i.invariant.1.0, (omega arith, (omega arith, omega arith))))
+    (omega (arith, c.carrier_length-n.ensures), omega (arith, c.carrier_length-n.ensures))
 
 pub returns : goal.returns
 unfolding lane_text
 returns c =
     let f = c.figures_of-f.result in
+    let count : f.count ≤ 64 = few (goal.at.returns c).After-figures_of-f in
     let records = records_in c.args.l.now in
     let tables = tables_in c.args.l.now in
     let past = ap length (carriers_past records c.loop-i.i f.count (omega arith)) in

@@ -1,5 +1,5 @@
 use mathlib.Core.Path.{◌≡◌}
-use Prim.Native.Nat.{◌+◌, ◌-◌, ◌*◌, ◌≤◌}
+use Prim.Native.Nat.{◌+◌, ◌*◌, ◌≤◌}
 use lib.ListN.{length, take}
 use lib.Seq.{slice}
 use Rattle.lane.specs.Layout.{records_in}
@@ -8,11 +8,5 @@ use Rattle.lane.proofs.listing.text_length.Given as goal
 
 abbrev pub invariant-loop-i : goal.invariant-loop-i
 invariant-loop-i l =
-    (length (records_in l.l) ≡ 64)
-    × ((l.f.count ≤ 64)
-    × ((l.i ≤ l.f.count)
-    × ((l.n ≤ 26 + 131 * l.i)
-    × (l.n + length (carriers_text (slice l.i l.f.count (records_in l.l))) ≡ l.initial.n + length (carriers_text (take l.f.count (records_in l.l)))))))
-
-abbrev pub decreases-loop-i : goal.decreases-loop-i
-decreases-loop-i l = l.f.count - l.i
+    (l.n ≤ 26 + 131 * l.i)
+    × (l.n + length (carriers_text (slice l.i l.i-end (records_in l.l))) ≡ l.initial.n + length (carriers_text (take l.i-end (records_in l.l))))

@@ -1,4 +1,3 @@
-use Prim.Native.Nat.{◌-◌}
 use Rattle.lane.specs.Layout.{records_in}
 use Rattle.lane.proofs.driving.Converting.{Converting}
 use Rattle.lane.proofs.motion.convert.Given as goal
@@ -6,6 +5,3 @@ use Rattle.lane.proofs.motion.convert.Given as goal
 abbrev pub invariant-loop-i : goal.invariant-loop-i
 invariant-loop-i l =
     Converting l.count (records_in l.l) l.wishes l.units l.i
-
-abbrev pub decreases-loop-i : goal.decreases-loop-i
-decreases-loop-i l = l.count - l.i

@@ -60,7 +60,7 @@ driven_fits t = search rules
 
 pub loop-i-init : goal.loop-i-init
 loop-i-init c =
-    ((refl, refl), rw c.no_carrier-ahead.ensures (driving_start c.args.row c.args.road c.args.count _ c.args.units.now c.requires.count_bound.0 c.requires.l_len.0 c.sized.ensures))
+    ((refl, refl), rw c.no_carrier-ahead.ensures (driving_start c.args.row c.args.road c.args.count _ c.args.units.now c.requires.count_bound.0 c.requires.l_len.0 (omega arith)))
 
 pub overflow_cast-units : goal.overflow_cast-units
 overflow_cast-units c = unit_wide (goal.at.overflow_cast-units c).After-drive_one-arg-1
@@ -82,12 +82,6 @@ move_one-requires c =
 pub keep-left-requires : goal.keep-left-requires
 keep-left-requires c =
     omega (arith, below (goal.at.keep-left-requires c).After-carrier_at-c, c.requires.count_bound.0, c.loop-i.invariant.1.few)
-
-pub overflow_add-i : goal.overflow_add-i
-overflow_add-i c = omega (arith, below (goal.at.overflow_add-i c).After-carrier_at-c, c.requires.count_bound.0)
-
-pub loop-i-smaller : goal.loop-i-smaller
-loop-i-smaller c = omega (arith, below (goal.at.loop-i-smaller c).After-carrier_at-c)
 
 pub loop-i-preserved : goal.loop-i-preserved
 loop-i-preserved c =

@@ -1,6 +1,6 @@
 -- `lane::motion::run` meets its contract: the records hold who is left of those that have moved, and the figures say how many.
 use borrow.Author.Rules.{rules}
-use mathlib.Core.Path.{◌≡◌, refl, ap, ap₂, ◌∙◌}
+use mathlib.Core.Path.{◌≡◌, ap, ap₂, ◌∙◌}
 use mathlib.Core.List.{List}
 use Prim.Native.Nat.{◌+◌, ◌≤◌}
 use native.Mathlib.Omega.{arith}
@@ -80,7 +80,6 @@ returns c =
     ∙ ap₂ (λ (f g : Figures). counting f (g.cycle + 1) left) c.drive_all-left.ensures.count_le_count.1.0.0 c.figures_of-f.ensures.value
     in
     record {
-      no_value = refl;
       word_value = word_is (goal.at.returns c).After-drive_all-left;
       replaced_value = ap ones (word_is (goal.at.returns c).After-drive_all-left) ∙ word_ones _;
       l_after = omega (arith, all.0, ap (λ (f : Figures). f.count) figures);

@@ -18,8 +18,8 @@ module _ (c : After-braking) where
       → le_z c.args.w (braking (guaranteed_rate c.args.row c.args.c) c.args.c.speed) ≡ t
   tested t e =
       let f : SFits w64 c.braking.result = search rules in
-      let rate = c.guaranteed_rate-rate.ensures in
-      let speed = c.narrow-v.ensures in
+      let rate = c.guaranteed_rate.ensures in
+      let speed = c.narrow.ensures in
       ap₂ le_z (sym (to_z-of_z c.ranges.w)) (sym (to_z-of_z f ∙ c.braking.ensures ∙ ap₂ braking rate speed)) ∙ e
 
 pub returns-then-foremost : goal.returns-then-foremost
@@ -36,6 +36,6 @@ pub returns : goal.returns
 returns c =
     let a = c.args in
     c.rests_behind.ensures
-    ∙ rw (c.guaranteed_rate-rate.ensures, c.narrow-v.ensures, c.reach_to.ensures, c.narrow.ensures, c.narrow-2.ensures, to_z-of_z c.ranges.w)
+    ∙ rw (c.reach.ensures, c.front.ensures, c.rates.ensures, to_z-of_z c.ranges.w)
     (test_stands a.row a.foremost a.ahead a.c a.w c.if-foremost.false c.requires.bound.0 c.requires.bound.1
     (record { sum = c.requires.w_value.0; small = c.requires.w_value.1 }) (tested (goal.at.returns c).After-braking _ c.if-w-braking.false))

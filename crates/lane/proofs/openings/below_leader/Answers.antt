@@ -8,7 +8,7 @@ use Rattle.lane.specs.Safety.{guaranteed_rate}
 use Rattle.lane.specs.Opening.{newcomer_at}
 use Rattle.lane.proofs.checks.Surfaces.{rate_brakes}
 use Rattle.lane.proofs.calls.Openings.{below_leader_is}
-use Rattle.lane.proofs.openings.below_leader.Goals.{After-guaranteed_rate-rate, After-less-longer}
+use Rattle.lane.proofs.openings.below_leader.Goals.{After-guaranteed_rate-rate, After-saturating_sub-longer}
 use Rattle.lane.proofs.openings.below_leader.Goals as goal
 
 -- the newcomer's guaranteed rate
@@ -22,17 +22,17 @@ pub stopping-requires : goal.stopping-requires
 stopping-requires c = (rate_least (goal.at.stopping-requires c).After-guaranteed_rate-rate, omega (arith, c.requires))
 
 -- how much longer the newcomer's stop is than that of the one ahead
-longer : (c : After-less-longer) → let a = c.args in
-    c.less-longer.result ≡ stopping_distance (guaranteed_rate a.row (newcomer_at a.n 0)) a.n.speed - stopping_distance a.row.hardest a.ahead.speed
+longer : (c : After-saturating_sub-longer) → let a = c.args in
+    c.saturating_sub-longer.result ≡ stopping_distance (guaranteed_rate a.row (newcomer_at a.n 0)) a.n.speed - stopping_distance a.row.hardest a.ahead.speed
 longer c =
-    c.less-longer.ensures ∙ rw (c.stopping.ensures, c.stopping-2.ensures, rate_is c.before.before.before) refl
+    c.saturating_sub-longer.ensures ∙ rw (c.stopping.ensures, c.stopping-2.ensures, rate_is c.before.before.before) refl
 
 pub overflow_add-ahead : goal.overflow_add-ahead
 overflow_add-ahead c =
     let most = stopping_most c.guaranteed_rate-rate.result c.args.n.speed 8192 (rate_least (goal.at.overflow_add-ahead c).After-guaranteed_rate-rate) c.requires.1.1.0 in
-    omega (arith, c.less-longer.ensures, c.stopping.ensures, most, c.requires)
+    omega (arith, c.saturating_sub-longer.ensures, c.stopping.ensures, most, c.requires)
 
 pub returns : goal.returns
 returns c p =
     let a = c.args in
-    below_leader_is a.row a.n a.ahead p ∙ sym (rw (c.less.ensures, longer (goal.at.returns c).After-less-longer) refl)
+    below_leader_is a.row a.n a.ahead p ∙ sym (rw (c.saturating_sub.ensures, longer (goal.at.returns c).After-saturating_sub-longer) refl)

@@ -12,9 +12,10 @@ use Rattle.lane.specs.Layout.{state_of}
 use Rattle.lane.specs.Rules.{broken}
 use Rattle.lane.specs.Calls.{named_no, place_of}
 use Rattle.lane.specs.Opening.{gap_place, gap_named_no}
-use Rattle.lane.proofs.checks.Checks.{refused_as, accepted_as}
+use Rattle.lane.proofs.Refused.{passed_up}
+use Rattle.lane.proofs.checks.Checks.{passes_21, refuses_21, refused_as, accepted_as}
 use Rattle.lane.proofs.calls.Answers.{accepted_has, named_tells, counted_most}
-use Rattle.lane.proofs.openings.check_gap.Goals.{Else-named-ne0}
+use Rattle.lane.proofs.openings.check_gap.Goals.{In_ok-place-in-Behind}
 use Rattle.lane.proofs.openings.check_gap.Goals as goal
 
 behind_no : (s : State) (g : Gap) (number : ℕ) → g ≡ Behind number → gap_named_no s g ≡ named_no s number
@@ -33,14 +34,14 @@ head_place : (g : Gap) (cs : List Carrier) → g ≡ AheadOfAll → gap_place g 
 unfolding gap_place
 head_place g cs e = rw e refl
 
-pub returns-then-named-ne0 : goal.returns-then-named-ne0
-returns-then-named-ne0 c =
+pub returns-in_err-place-in-Behind : goal.returns-in_err-place-in-Behind
+returns-in_err-place-in-Behind c =
     let a = c.args in
-    refused_as (gap_named_no (state_of a.l.now) a.gap) _ _ _
-    (behind_no (state_of a.l.now) a.gap _ c.in-Behind.is ∙ sym c.check_named-named.ensures.0) c.if-named-ne0.true c.refused.ensures
+    rw (passed_up _ c.from_residual.ensures.1)
+    (refused_as (gap_named_no (state_of a.l.now) a.gap) _ _ (behind_no (state_of a.l.now) a.gap _ c.in-Behind.is ∙ sym c.in_err-place-in-Behind.ensures.0))
 
 -- the carrier named is there
-module _ (c : Else-named-ne0) where
+module _ (c : In_ok-place-in-Behind) where
   abbrev s : State
   s = state_of c.args.l.now
 
@@ -48,31 +49,32 @@ module _ (c : Else-named-ne0) where
   number = c.in-Behind.number
 
   accepted : named_no s number ≡ 0
-  accepted = sym c.check_named-named.ensures.0 ∙ c.if-named-ne0.false
+  accepted = sym c.in_ok-place-in-Behind.ensures.0
 
-  place_is : c.check_named-named.result.place ≡ place_of number s.carriers
-  place_is = c.check_named-named.ensures.1 ∙ accepted_has _ _ 0 accepted
+  place_is : c.in_ok-place-in-Behind.place ≡ place_of number s.carriers
+  place_is = c.in_ok-place-in-Behind.ensures.1 ∙ accepted_has _ _ 0 accepted
 
 pub overflow_add-result : goal.overflow_add-result
 overflow_add-result c =
-    let there = named_tells (s (goal.at.overflow_add-result c).Else-named-ne0) _ (accepted (goal.at.overflow_add-result c).Else-named-ne0) in
-    omega (arith, place_is (goal.at.overflow_add-result c).Else-named-ne0, there.within, counted_most c.args.l.now, there.sound.count)
+    let at = (goal.at.overflow_add-result c).In_ok-place-in-Behind in
+    let there = named_tells (s at) _ (accepted at) in
+    omega (arith, place_is at, there.within, counted_most c.args.l.now, there.sound.count)
 
-pub returns-then-breaks_rule : goal.returns-then-breaks_rule
-returns-then-breaks_rule c =
-    let a = c.args in
-    let lane-broken = sym c.breaks_rule.ensures ∙ c.if-breaks_rule.true in
-    refused_as (gap_named_no (state_of a.l.now) a.gap) _ _ _ (head_no (state_of a.l.now) a.gap c.in-AheadOfAll.is ∙ rw lane-broken refl) (λ z. omega arith) c.refused-then-breaks_rule.ensures
-
-pub returns-else-named-ne0 : goal.returns-else-named-ne0
-returns-else-named-ne0 c =
+pub returns-in_ok-place-in-Behind : goal.returns-in_ok-place-in-Behind
+returns-in_ok-place-in-Behind c =
     let gap = c.args.gap in
     let e = c.in-Behind.is in
-    accepted_as (gap_named_no (s (goal.at.returns-else-named-ne0 c).Else-named-ne0) gap) (gap_place gap (s (goal.at.returns-else-named-ne0 c).Else-named-ne0).carriers) _ (behind_no (s (goal.at.returns-else-named-ne0 c).Else-named-ne0) gap _ e ∙ accepted (goal.at.returns-else-named-ne0 c).Else-named-ne0) (omega (arith, place_is (goal.at.returns-else-named-ne0 c).Else-named-ne0, behind_place gap _ (s (goal.at.returns-else-named-ne0 c).Else-named-ne0).carriers e))
+    accepted_as (gap_named_no (s c) gap) (gap_place gap (s c).carriers) _ (behind_no (s c) gap _ e ∙ accepted c) (omega (arith, place_is c, behind_place gap _ (s c).carriers e))
 
-pub returns-else-breaks_rule : goal.returns-else-breaks_rule
-returns-else-breaks_rule c =
+pub returns-in_err-check_sound-in-AheadOfAll : goal.returns-in_err-check_sound-in-AheadOfAll
+returns-in_err-check_sound-in-AheadOfAll c =
+    let a = c.args in
+    let why = refuses_21 (state_of a.l.now) _ c.in_err-check_sound-in-AheadOfAll.ensures in
+    rw (passed_up _ c.from_residual-in_err-check_sound-in-AheadOfAll.ensures.1)
+    (refused_as (gap_named_no (state_of a.l.now) a.gap) _ _ (head_no (state_of a.l.now) a.gap c.in-AheadOfAll.is ∙ rw why.0 (sym why.1)))
+
+pub returns-in_ok-check_sound-in-AheadOfAll : goal.returns-in_ok-check_sound-in-AheadOfAll
+returns-in_ok-check_sound-in-AheadOfAll c =
     let a = c.args in
     let e = c.in-AheadOfAll.is in
-    let unbroken = sym c.breaks_rule.ensures ∙ c.if-breaks_rule.false in
-    accepted_as (gap_named_no (state_of a.l.now) a.gap) _ 0 (head_no (state_of a.l.now) a.gap e ∙ rw unbroken refl) (sym (head_place a.gap _ e))
+    accepted_as (gap_named_no (state_of a.l.now) a.gap) _ 0 (head_no (state_of a.l.now) a.gap e ∙ rw (passes_21 _ c.in_ok-check_sound-in-AheadOfAll.ensures) refl) (sym (head_place a.gap _ e))

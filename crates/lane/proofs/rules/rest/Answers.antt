@@ -2,4 +2,4 @@ use mathlib.Core.Path.{refl}
 use Rattle.lane.proofs.rules.rest.Goals as goal
 
 pub returns : goal.returns
-returns c = rw (c.rest.ensures, c.narrow.ensures, c.narrow-2.ensures) refl
+returns c = rw (c.rest.ensures, c.front.ensures) refl

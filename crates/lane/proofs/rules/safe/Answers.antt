@@ -8,5 +8,5 @@ pub returns : goal.returns
 unfolding safe_with
 returns c =
     c.safe_behind.ensures
-    ∙ rw (c.guaranteed_rate.ensures, c.reach_to.ensures, c.narrow.ensures, c.narrow-2.ensures, c.narrow-3.ensures)
+    ∙ rw (c.reach.ensures, c.front.ensures, c.rates.ensures)
     (safe_is _ _ _ _ _ _ c.requires.bound.0 c.requires.bound.1)

@@ -1,4 +1,3 @@
-use Prim.Native.Nat.{◌-◌, ◌≤◌}
 use lib.ListN.{drop}
 use Rattle.text.proofs.Laws.{Putting}
 use Rattle.lane.specs.Layout.{table_from}
@@ -6,7 +5,4 @@ use Rattle.lane.specs.Table.{table_text}
 use Rattle.lane.proofs.table.put_text.Given as goal
 
 abbrev pub invariant-loop-code : goal.invariant-loop-code
-invariant-loop-code l = (l.code ≤ 8) × Putting (table_text (table_from l.table l.l)) l.at l.initial.out l.out l.place (table_text (drop l.code (table_from l.table l.l)))
-
-abbrev pub decreases-loop-code : goal.decreases-loop-code
-decreases-loop-code l = 8 - l.code
+invariant-loop-code l = Putting (table_text (table_from l.table l.l)) l.at l.initial.out l.out l.place (table_text (drop l.code (table_from l.table l.l)))

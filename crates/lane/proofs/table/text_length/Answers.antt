@@ -9,18 +9,12 @@ use Rattle.lane.proofs.checks.Records.{table_eight}
 use Rattle.lane.proofs.checks.TableTexts.{length_next, length_past}
 use Rattle.lane.proofs.table.text_length.Goals as goal
 
-pub loop-code-init : goal.loop-code-init
-loop-code-init c = (omega arith, omega arith, omega arith)
-
-pub overflow_add-n : goal.overflow_add-n
-overflow_add-n c = omega (arith, c.row_length-n.ensures)
-
 pub loop-code-preserved : goal.loop-code-preserved
 loop-code-preserved c =
     let rows = table_from c.args.table c.args.l.now in
     let next = length_next rows c.loop-code.code (omega (arith, table_eight c.args.table c.args.l.now)) in
     let here = ap (λ (r : Row). length (row_text r)) c.surface_at.ensures in
-    (omega arith, omega (arith, c.row_length-n.ensures), omega (arith, c.row_length-n.ensures))
+    (omega (arith, c.row_length-n.ensures), omega (arith, c.row_length-n.ensures))
 
 pub returns : goal.returns
 returns c =

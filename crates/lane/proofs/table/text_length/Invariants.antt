@@ -1,5 +1,5 @@
 use mathlib.Core.Path.{◌≡◌}
-use Prim.Native.Nat.{◌+◌, ◌-◌, ◌*◌, ◌≤◌}
+use Prim.Native.Nat.{◌+◌, ◌*◌, ◌≤◌}
 use lib.ListN.{length, drop}
 use Rattle.lane.specs.Layout.{table_from}
 use Rattle.lane.specs.Table.{table_text}
@@ -7,7 +7,4 @@ use Rattle.lane.proofs.table.text_length.Given as goal
 
 abbrev pub invariant-loop-code : goal.invariant-loop-code
 invariant-loop-code l =
-    (l.code ≤ 8) × (l.n ≤ 69 * l.code) × (l.n + length (table_text (drop l.code (table_from l.table l.l))) ≡ length (table_text (table_from l.table l.l)))
-
-abbrev pub decreases-loop-code : goal.decreases-loop-code
-decreases-loop-code l = 8 - l.code
+    (l.n ≤ 69 * l.code) × (l.n + length (table_text (drop l.code (table_from l.table l.l))) ≡ length (table_text (table_from l.table l.l)))

@@ -8,4 +8,5 @@ returns c =
     let first = put_first (key_at road_keys 0) c.args.road.surface c.args.at c.args.out.now _ _ (c.put_decimal_line-surface.ensures.out_after, c.put_decimal_line-surface.ensures.value) in
     let second = put_next first (key_at road_keys 1) c.args.road.end _ _ (c.put_decimal_line-end.ensures.out_after, c.put_decimal_line-end.ensures.value) in
     let third = put_next second (key_at road_keys 2) c.args.road.limit _ _ (c.put_decimal_line-limit.ensures.out_after, c.put_decimal_line-limit.ensures.value) in
-    record { out_after = (group_put (put_next third (key_at road_keys 3) c.args.cycle _ _ (c.put_decimal_line.ensures.out_after, c.put_decimal_line.ensures.value)) c.requires).0; value = (group_put (put_next third (key_at road_keys 3) c.args.cycle _ _ (c.put_decimal_line.ensures.out_after, c.put_decimal_line.ensures.value)) c.requires).1 }
+    let all = group_put (put_next third (key_at road_keys 3) c.args.cycle _ _ (c.put_decimal_line.ensures.out_after, c.put_decimal_line.ensures.value)) c.requires in
+    record { out_after = all.0; value = all.1 }

@@ -67,4 +67,5 @@ put_text-requires c =
 
 pub returns : goal.returns
 returns c =
-    record { out_after = (parts_put (s (goal.at.returns c).After-figures_of-f) c.args.out.now c.requires.1 (c.put_text-in_force.ensures.out_after, c.put_text-in_force.ensures.value) (c.put_text-next.ensures.out_after, c.put_text-next.ensures.value) (put_there (goal.at.returns c).After-put_road-figures) (c.put_text.ensures.out_after, c.put_text.ensures.value)).0; value = (parts_put (s (goal.at.returns c).After-figures_of-f) c.args.out.now c.requires.1 (c.put_text-in_force.ensures.out_after, c.put_text-in_force.ensures.value) (c.put_text-next.ensures.out_after, c.put_text-next.ensures.value) (put_there (goal.at.returns c).After-put_road-figures) (c.put_text.ensures.out_after, c.put_text.ensures.value)).1 }
+    let all = parts_put (s (goal.at.returns c).After-figures_of-f) c.args.out.now c.requires.1 (c.put_text-in_force.ensures.out_after, c.put_text-in_force.ensures.value) (c.put_text-next.ensures.out_after, c.put_text-next.ensures.value) (put_there (goal.at.returns c).After-put_road-figures) (c.put_text.ensures.out_after, c.put_text.ensures.value) in
+    record { out_after = all.0; value = all.1 }

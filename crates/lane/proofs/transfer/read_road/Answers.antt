@@ -1,12 +1,18 @@
--- Each field is read where the one before ends.
-use Rattle.text.proofs.GroupLaws.{key_at, group_first, group_next, group_read}
-use Rattle.lane.specs.Handover.{road_keys}
+-- Each line is read where the one before ends.
+use Rattle.text.proofs.GroupLaws.{group_end, group_stop, group_on, group_past}
 use Rattle.lane.proofs.transfer.read_road.Goals as goal
 
+pub returns-in_err-surface : goal.returns-in_err-surface
+returns-in_err-surface c = rw c.from_residual.ensures (group_stop _ _ _ c.in_err-surface.ensures.0)
+
+pub returns-in_err-end : goal.returns-in_err-end
+returns-in_err-end c = rw c.from_residual-in_err-end.ensures (group_past _ _ _ c.in_ok-surface.ensures (group_stop _ _ _ c.in_err-end.ensures.0))
+
+pub returns-in_err-limit : goal.returns-in_err-limit
+returns-in_err-limit c = rw c.from_residual-in_err-limit.ensures (group_past _ _ _ c.in_ok-surface.ensures (group_past _ _ _ c.in_ok-end.ensures (group_stop _ _ _ c.in_err-limit.ensures.0)))
+
+pub returns-in_err-cycle : goal.returns-in_err-cycle
+returns-in_err-cycle c = rw c.from_residual-in_err-cycle.ensures (group_past _ _ _ c.in_ok-surface.ensures (group_past _ _ _ c.in_ok-end.ensures (group_past _ _ _ c.in_ok-limit.ensures (group_stop _ _ _ c.in_err-cycle.ensures.0))))
+
 pub returns : goal.returns
-returns c =
-    let a = c.args in
-    let first = group_first (key_at road_keys 0) a.text.now a.at c.read_field-surface.result c.read_field-surface.ensures in
-    let second = group_next first (key_at road_keys 1) c.read_field-end.result c.read_field-end.ensures in
-    let third = group_next second (key_at road_keys 2) c.read_field-limit.result c.read_field-limit.ensures in
-    group_read (group_next third (key_at road_keys 3) c.read_field-cycle.result c.read_field-cycle.ensures)
+returns c = group_on _ _ _ c.in_ok-surface.ensures (group_on _ _ _ c.in_ok-end.ensures (group_on _ _ _ c.in_ok-limit.ensures (group_on _ _ _ c.in_ok-cycle.ensures (group_end _))))

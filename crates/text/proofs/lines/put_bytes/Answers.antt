@@ -21,17 +21,19 @@ next_first at bytes buffer i h room =
 
 pub returns-then-out-at : goal.returns-then-out-at
 returns-then-out-at c =
-    record { out_after = (nothing_put _ _ _ (omega arith)).0; value = (nothing_put _ _ _ (omega arith)).1 }
+    let none = nothing_put _ _ _ (omega arith) in
+    record { out_after = none.0; value = none.1 }
 
 pub overflow_sub-out : goal.overflow_sub-out
 overflow_sub-out c = omega arith
 
 pub returns-then-out-at-2 : goal.returns-then-out-at-2
 returns-then-out-at-2 c =
-    record { out_after = (nothing_put _ _ _ (omega arith)).0; value = (nothing_put _ _ _ (omega arith)).1 }
+    let none = nothing_put _ _ _ (omega arith) in
+    record { out_after = none.0; value = none.1 }
 
 pub loop-i-init : goal.loop-i-init
-loop-i-init c = (omega arith, refl, rw add-zero refl)
+loop-i-init c = (refl, rw add-zero refl)
 
 pub bounds-bytes-i : goal.bounds-bytes-i
 bounds-bytes-i c = omega arith
@@ -42,19 +44,12 @@ overflow_add-out c = omega arith
 pub bounds-out-at : goal.bounds-out-at
 bounds-out-at c = omega arith
 
-pub overflow_add-i : goal.overflow_add-i
-overflow_add-i c = omega arith
-
-pub loop-i-smaller : goal.loop-i-smaller
-loop-i-smaller c = omega arith
-
 pub loop-i-preserved : goal.loop-i-preserved
 loop-i-preserved c =
     let now = c.loop-i in
     let args = c.args in (
-      omega arith,
-      length-set now.out (args.at + now.i) (get_or args.bytes.now now.i 0) ∙ now.invariant.1,
-      next_first args.at args.bytes.now now.out now.i c.loop-i-test.true (omega arith) ∙ now.invariant.2,
+      length-set now.out (args.at + now.i) (get_or args.bytes.now now.i 0) ∙ now.invariant.0,
+      next_first args.at args.bytes.now now.out now.i (omega arith) (omega arith) ∙ now.invariant.1,
     )
 
 pub overflow_add-result : goal.overflow_add-result
@@ -66,4 +61,4 @@ returns c =
     let args = c.args in
     let e : length args.bytes.now ≡ now.i = omega arith in
     let none : drop now.i args.bytes.now ≡ [] = rw e at (drop-length args.bytes.now) in
-    record { out_after = sym (written_nothing (args.at + now.i) now.out) ∙ (rw none at now.invariant.2); value = sym (place_fits args.at args.bytes.now args.out.now (omega arith)) }
+    record { out_after = sym (written_nothing (args.at + now.i) now.out) ∙ (rw none at now.invariant.1); value = sym (place_fits args.at args.bytes.now args.out.now (omega arith)) }

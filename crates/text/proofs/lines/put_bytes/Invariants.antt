@@ -1,12 +1,9 @@
 use mathlib.Core.Path.{◌≡◌}
-use Prim.Native.Nat.{◌+◌, ◌-◌, ◌≤◌}
+use Prim.Native.Nat.{◌+◌}
 use lib.ListN.{length, drop}
 use Rattle.text.specs.Lines.{written}
 use Rattle.text.proofs.lines.put_bytes.Given as goal
 
 abbrev pub invariant-loop-i : goal.invariant-loop-i
 invariant-loop-i l =
-    (l.i ≤ length l.bytes) × (length l.out ≡ length l.initial.out) × (written (l.at + l.i) (drop l.i l.bytes) l.out ≡ written l.at l.bytes l.initial.out)
-
-abbrev pub decreases-loop-i : goal.decreases-loop-i
-decreases-loop-i l = length l.bytes - l.i
+    (length l.out ≡ length l.initial.out) × (written (l.at + l.i) (drop l.i l.bytes) l.out ≡ written l.at l.bytes l.initial.out)

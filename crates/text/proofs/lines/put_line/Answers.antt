@@ -42,15 +42,18 @@ value_at c = c.put_bytes-value.ensures.value ∙ place_fits _ _ _ (omega (arith,
 
 pub returns-then-out-at : goal.returns-then-out-at
 returns-then-out-at c =
-    record { out_after = (too_long_is _ _ _ _ _ _ (omega arith)).0; value = (too_long_is _ _ _ _ _ _ (omega arith)).1 }
+    let none = too_long_is _ _ _ _ _ _ (omega arith) in
+    record { out_after = none.0; value = none.1 }
 
 pub returns-then-room-key : goal.returns-then-room-key
 returns-then-room-key c =
-    record { out_after = (too_long_is _ _ _ _ _ _ (omega arith)).0; value = (too_long_is _ _ _ _ _ _ (omega arith)).1 }
+    let none = too_long_is _ _ _ _ _ _ (omega arith) in
+    record { out_after = none.0; value = none.1 }
 
 pub returns-then-room-key-2 : goal.returns-then-room-key-2
 returns-then-room-key-2 c =
-    record { out_after = (too_long_is _ _ _ _ _ _ (omega arith)).0; value = (too_long_is _ _ _ _ _ _ (omega arith)).1 }
+    let none = too_long_is _ _ _ _ _ _ (omega arith) in
+    record { out_after = none.0; value = none.1 }
 
 pub overflow_add-value : goal.overflow_add-value
 overflow_add-value c = omega (arith, value_at (goal.at.overflow_add-value c).After-put_bytes-value, (goal.at.overflow_add-value c).Start)
@@ -61,9 +64,5 @@ put_digits-requires c =
 
 pub returns : goal.returns
 returns c =
-    record {
-      out_after = (in_parts _ _ _ _ _ _ (room (goal.at.returns c).After-put_bytes-value) (value_at (goal.at.returns c).After-put_bytes-value) c.put_bytes-value.ensures.out_after c.put_bytes-next.ensures.out_after c.put_bytes-next.ensures.value
-          c.put_digits.ensures).0;
-      value = (in_parts _ _ _ _ _ _ (room (goal.at.returns c).After-put_bytes-value) (value_at (goal.at.returns c).After-put_bytes-value) c.put_bytes-value.ensures.out_after c.put_bytes-next.ensures.out_after c.put_bytes-next.ensures.value
-          c.put_digits.ensures).1;
-    }
+    let all = in_parts _ _ _ _ _ _ (room (goal.at.returns c).After-put_bytes-value) (value_at (goal.at.returns c).After-put_bytes-value) c.put_bytes-value.ensures.out_after c.put_bytes-next.ensures.out_after c.put_bytes-next.ensures.value c.put_digits.ensures in
+    record { out_after = all.0; value = all.1 }

@@ -1,5 +1,5 @@
 -- `text::numbers::read_signed` meets its contract: the first byte decides the sign, and the number read fits the 16 bits with it.
-use borrow.Author.Tests.{eq-eqb, ne_eqb}
+use borrow.Author.Tests.{lt-ltb, eq-eqb, ne_eqb}
 use borrow.Author.Rules.{part_to_end}
 use mathlib.Core.Path.{◌≡◌, refl, sym, ap, subst, ◌∙◌}
 use mathlib.Core.List.{List, [], ◌∷◌}
@@ -12,16 +12,16 @@ use mir.Syntax.{w16, w32}
 use mir.Val.{SFits, to_z, of_z}
 use mir.Facts.{to_z-of_z, to_z_pos, sfits_widen}
 use Rattle.text.specs.Fields.{number_in, minus, plus, signed_in}
-use Rattle.text.specs.declared.numbers.Number.{Number}
-use Rattle.text.specs.declared.numbers.Number.TheVariants.{Is, Malformed}
-use Rattle.text.specs.declared.numbers.Signed.TheVariants as signed
+use Rattle.std.specs.Prelude.{Option, Some, None, ltb}
+use Rattle.std.specs.Bool.{then_some}
+use Rattle.text.proofs.Reading.{none_there, some_there}
 use Rattle.text.proofs.ReadLaws.{number_put}
-use Rattle.text.proofs.numbers.read_signed.Goals.{After-read_number, After-read_number-else-digits-eq45, In-Is, In-Is-read_number}
+use Rattle.text.proofs.numbers.read_signed.Goals.{After-read_number, After-read_number-2, In_ok-size, In_ok-size-2}
 use Rattle.text.proofs.numbers.read_signed.Goals as goal
 
 -- ---- the sign
 
-no_byte : (ds : List ℕ) → length ds ≡ 0 → signed.Malformed ≡ signed_in ds
+no_byte : (ds : List ℕ) → length ds ≡ 0 → None ≡ signed_in ds
 unfolding signed_in
 no_byte [] h = refl
 no_byte (d ∷ ds) h = absurd (omega arith)
@@ -36,15 +36,10 @@ unfolding signed_in
 without_minus [] h e = absurd (omega arith)
 without_minus (d ∷ ds) h e = rw (ne_eqb d 45 e)
 
-minus_is : (n : ℕ) → (n ≡ 0 → ⊥) → minus (Is n) ≡ signed.Is (neg_ℤ (pos n))
+minus_as : (n : ℕ) {z : ℤ} → z ≡ neg_ℤ (pos n) → then_some (ltb 0 n) z ≡ minus (Some n)
 unfolding minus
-minus_is zero h = absurd (h refl)
-minus_is (suc n) h = refl
-
-minus_zero : (n : ℕ) → n ≡ 0 → minus (Is n) ≡ signed.Malformed
-unfolding minus
-minus_zero zero h = refl
-minus_zero (suc n) h = absurd (omega arith)
+minus_as zero e = refl
+minus_as (suc n) e = rw (lt-ltb 0 (suc n) (omega arith)) (ap Some e)
 
 -- ---- the number after a minus, as the code makes it: through 32 bits, which hold 32768
 
@@ -75,58 +70,53 @@ module _ (n : ℕ) (h : n ≤ 32768) where
 
 -- ---- what was read
 
-minus_read : (c : After-read_number) (m : Number) → c.read_number.result ≡ m → signed_in c.args.digits.now ≡ minus m
+minus_read : (c : After-read_number) (m : Option ℕ) → c.read_number.result ≡ m → signed_in c.args.digits.now ≡ minus m
 minus_read c m e =
     let ds = c.args.digits.now in
-    with_minus ds (omega arith) c.if-digits-eq45.true
+    with_minus ds (some_there ds c.is_empty.ensures c.if-is_empty.false) c.if-digits-eq45.true
     ∙ ap minus (ap (number_in 32768) (sym (part_to_end ds 1)) ∙ sym c.read_number.ensures ∙ e)
 
-minus_fits : (c : In-Is) → c.in-Is.size ≤ 32768
-minus_fits c = (number_put 32768 _ _ (sym c.read_number.ensures ∙ c.in-Is.is)).1
+minus_fits : (c : In_ok-size) → c.in_ok-size.size ≤ 32768
+minus_fits c = (number_put 32768 _ _ (sym c.read_number.ensures ∙ c.in_ok-size.was)).1
 
-plus_read : (c : After-read_number-else-digits-eq45) (m : Number) → c.read_number-else-digits-eq45.result ≡ m
-    → signed_in c.args.digits.now ≡ plus m
+plus_read : (c : After-read_number-2) (m : Option ℕ) → c.read_number-2.result ≡ m → signed_in c.args.digits.now ≡ plus m
 plus_read c m e =
-    without_minus c.args.digits.now (omega arith) c.if-digits-eq45.false
-    ∙ ap plus (sym c.read_number-else-digits-eq45.ensures ∙ e)
+    without_minus c.args.digits.now (some_there _ c.is_empty.ensures c.if-is_empty.false) c.if-digits-eq45.false ∙ ap plus (sym c.read_number-2.ensures ∙ e)
 
-plus_fits : (c : In-Is-read_number) → c.in-Is-read_number.size ≤ 32767
-plus_fits c = (number_put 32767 _ _ (sym c.read_number-else-digits-eq45.ensures ∙ c.in-Is-read_number.is)).1
+plus_fits : (c : In_ok-size-2) → c.in_ok-size-2.size ≤ 32767
+plus_fits c = (number_put 32767 _ _ (sym c.read_number-2.ensures ∙ c.in_ok-size-2.was)).1
 
-pub returns-then-digits-eq0 : goal.returns-then-digits-eq0
-returns-then-digits-eq0 c = no_byte _ c.if-digits-eq0.true
+pub returns-then-is_empty : goal.returns-then-is_empty
+returns-then-is_empty c = no_byte _ (none_there _ c.is_empty.ensures c.if-is_empty.true)
 
-pub returns-then-size-eq0 : goal.returns-then-size-eq0
-returns-then-size-eq0 c =
-    sym (minus_read (goal.at.returns-then-size-eq0 c).After-read_number (Is c.in-Is.size) c.in-Is.is ∙ minus_zero c.in-Is.size (omega arith))
+pub returns-in_err-size : goal.returns-in_err-size
+unfolding minus
+returns-in_err-size c = c.from_residual.ensures ∙ sym (minus_read (goal.at.returns-in_err-size c).After-read_number None c.in_err-size.was)
+
+pub overflow_cast-size : goal.overflow_cast-size
+overflow_cast-size c = let h = minus_fits (goal.at.overflow_cast-size c).In_ok-size in record { sfits = omega arith }
+
+pub overflow_sub-size : goal.overflow_sub-size
+overflow_sub-size c = wide _ (minus_fits (goal.at.overflow_sub-size c).In_ok-size)
+
+pub overflow_cast-size-then-digits-eq45 : goal.overflow_cast-size-then-digits-eq45
+overflow_cast-size-then-digits-eq45 c = cast _ (minus_fits (goal.at.overflow_cast-size-then-digits-eq45 c).In_ok-size)
+
+pub returns-then-digits-eq45 : goal.returns-then-digits-eq45
+returns-then-digits-eq45 c =
+    c.then_some.ensures ∙ minus_as c.in_ok-size.size (made c.in_ok-size.size (minus_fits (goal.at.returns-then-digits-eq45 c).In_ok-size))
+    ∙ sym (minus_read (goal.at.returns-then-digits-eq45 c).After-read_number _ c.in_ok-size.was)
+
+pub returns-in_err-size-2 : goal.returns-in_err-size-2
+unfolding plus
+returns-in_err-size-2 c =
+    c.from_residual-in_err-size-2.ensures ∙ sym (plus_read (goal.at.returns-in_err-size-2 c).After-read_number-2 None c.in_err-size-2.was)
 
 pub overflow_cast-result : goal.overflow_cast-result
-overflow_cast-result c = let h = minus_fits (goal.at.overflow_cast-result c).In-Is in record { sfits = omega arith }
+overflow_cast-result c = let h = plus_fits (goal.at.overflow_cast-result c).In_ok-size-2 in record { sfits = omega arith }
 
-pub overflow_sub-result : goal.overflow_sub-result
-overflow_sub-result c = wide _ (minus_fits (goal.at.overflow_sub-result c).In-Is)
-
-pub overflow_cast-result-in-Is : goal.overflow_cast-result-in-Is
-overflow_cast-result-in-Is c = cast _ (minus_fits (goal.at.overflow_cast-result-in-Is c).In-Is)
-
-pub overflow_cast-result-in-Is-read_number : goal.overflow_cast-result-in-Is-read_number
-overflow_cast-result-in-Is-read_number c = let h = plus_fits (goal.at.overflow_cast-result-in-Is-read_number c).In-Is-read_number in record { sfits = omega arith }
-
-pub returns-else-size-eq0 : goal.returns-else-size-eq0
-returns-else-size-eq0 c =
-    ap signed.Is (made c.in-Is.size (minus_fits (goal.at.returns-else-size-eq0 c).In-Is))
-    ∙ sym (minus_read (goal.at.returns-else-size-eq0 c).After-read_number (Is c.in-Is.size) c.in-Is.is ∙ minus_is c.in-Is.size c.if-size-eq0.false)
-
-pub returns-in-Malformed : goal.returns-in-Malformed
-unfolding minus
-returns-in-Malformed c = sym (minus_read (goal.at.returns-in-Malformed c).After-read_number Malformed c.in-Malformed.is)
-
-pub returns-in-Is-read_number : goal.returns-in-Is-read_number
+pub returns : goal.returns
 unfolding plus
-returns-in-Is-read_number c =
-    let h : c.in-Is-read_number.size < 2 ^ 15 = omega (arith, plus_fits (goal.at.returns-in-Is-read_number c).In-Is-read_number) in
-    ap signed.Is (to_z_pos w16 h) ∙ sym (plus_read (goal.at.returns-in-Is-read_number c).After-read_number-else-digits-eq45 (Is c.in-Is-read_number.size) c.in-Is-read_number.is)
-
-pub returns-in-Malformed-read_number : goal.returns-in-Malformed-read_number
-unfolding plus
-returns-in-Malformed-read_number c = sym (plus_read (goal.at.returns-in-Malformed-read_number c).After-read_number-else-digits-eq45 Malformed c.in-Malformed-read_number.is)
+returns c =
+    let h : c.in_ok-size-2.size < 2 ^ 15 = omega (arith, plus_fits (goal.at.returns c).In_ok-size-2) in
+    ap Some (to_z_pos w16 h) ∙ sym (plus_read (goal.at.returns c).After-read_number-2 _ c.in_ok-size-2.was)

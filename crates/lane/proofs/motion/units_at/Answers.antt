@@ -1,0 +1,1 @@
+-- At the speed of a lawful carrier 32 bits hold the units.
