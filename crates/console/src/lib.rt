@@ -65,7 +65,7 @@ pub fn step(l: &mut Lane, input: &[u8], at: usize, out: &mut [u8]) -> Stepped
     if input.len() <= at {
         return halted(at, 0);
     }
-    let mut lines = Lines { rest: &input[at..] };
+    let mut lines = Lines::at(input, at);
     match blocks::block(l, &mut lines, out) {
         Some(written) => Stepped {
             next: input.len() - lines.rest.len(),

@@ -234,6 +234,34 @@ number_of_value k t {value} {rest} {m} e f =
 
 -- ---- field after field
 
+-- what comes after it, where it is told whether it is there
+then_told : {A B : Type 0} (ok : Bool) (a : A) (t : List ℕ) (next : A → List ℕ → Got B) → and_then (cond ok (got a t) missing) next ≡ cond ok (next a t) missing
+then_told true a t next = refl
+then_told false a t next = refl
+
+-- the first keys of a group are read, whatever the others are
+pub record GroupRead (t : List ℕ) (ks : List Key) (ok : Bool) (ns left : List ℕ) : Type 0 where
+  pub rest : (more : List Key) → group_in (ks ++ more) t ≡ cond ok (before ns (group_in more left)) missing
+
+pub group_first : (k : Key) (t : List ℕ) (ok : Bool) (n : ℕ) (left : List ℕ) → number_line k t ≡ cond ok (got n left) missing → GroupRead t (k ∷ []) ok (n ∷ []) left
+unfolding group_in
+group_first k t ok n left e = record { rest = λ more. rw e (then_told ok n left _) }
+
+pub group_next : {t : List ℕ} {ks : List Key} {ok : Bool} {ns left : List ℕ} → GroupRead t ks ok ns left
+    → (k : Key) (there : Bool) (n : ℕ) (next : List ℕ) → number_line k left ≡ cond there (got n next) missing
+    → GroupRead t (ks ++ (k ∷ [])) (ok && there) (ns ++ (n ∷ [])) next
+group_next {t} {ks} {ok} {ns} {left} first k there n next e =
+    record { rest = λ more. rw (append_assoc, first.rest (k ∷ more), (group_first k left there n next e).rest more) (by_tests ok there (group_in more next)) }
+  where
+    by_tests : (s u : Bool) (x : Got (List ℕ)) → cond s (before ns (cond u (before (n ∷ []) x) missing)) missing ≡ cond (s && u) (before (ns ++ (n ∷ [])) x) missing
+    by_tests true true x = before_both ns (n ∷ []) x
+    by_tests true false x = refl
+    by_tests false u x = refl
+
+pub group_read : {t : List ℕ} {ks : List Key} {ok : Bool} {ns left : List ℕ} → GroupRead t ks ok ns left → group_in ks t ≡ cond ok (got ns left) missing
+unfolding group_in
+group_read {ks = ks} {ns = ns} first = rw (append-nil ks, append-nil ns) at (first.rest [])
+
 pub group_end : (t : List ℕ) → group_in [] t ≡ got [] t
 unfolding group_in
 group_end t = refl

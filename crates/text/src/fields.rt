@@ -1,5 +1,5 @@
 // Lines read from a lent text.
-ghost use Rattle.std.specs.Prelude.{◌≡◌, ◌==◌, MatchOption, position, take, min, length};
+ghost use Rattle.std.specs.Prelude.{◌≡◌, ◌==◌, MatchOption, position, take, drop, min, length};
 ghost use Rattle.text.specs.Fields.{longest_line};
 ghost use Rattle.text.specs.Groups.{got, missing, value_line, number_line, Reads};
 
@@ -24,6 +24,15 @@ fn line_end(text: &[u8]) -> Option<usize>
 }
 
 impl<'a> Lines<'a> {
+    // What is left from a place on; past the text's end nothing is.
+    pub fn at(text: &'a [u8], at: usize) -> Lines<'a>
+        ensures { result.rest.now ≡ drop at text.now }
+    {
+        Lines {
+            rest: &text[at.min(text.len())..],
+        }
+    }
+
     // The value of the next line, a part of the text, where it has that key; else nothing is read.
     pub fn value(&mut self, key: &[u8]) -> Option<&'a [u8]>
         ensures { MatchOption result ((value_line key.now self.old.rest.now ≡ missing) × (self.new ≡ self.old)) (λ v. value_line key.now self.old.rest.now ≡ got v.now self.new.rest.now) }

@@ -120,5 +120,8 @@ module _ (s : Bool) (a i k j : ℕ) (ends : a * 2 ^ i ≤ 2 ^ k) (room : 2 ^ k *
   pub product_within : lies_within (fin s a (pos i)) (fin false 1 (pos k)) x ≡ true → lies_within (fin true 1 (pos 13)) (fin false 1 (pos 13)) (mul binary32 x (fin false 1 (pos j))) ≡ true
   product_within inside = in_range 13 (mul binary32 x (fin false 1 (pos j))) (at_most (2 ^ k) j room x held (range s a i k ends x inside))
 
+  pub product_rounded : lies_within (fin s a (pos i)) (fin false 1 (pos k)) x ≡ true → rounded_times 1 (mul binary32 x (fin false 1 (pos j))) ≡ rounded_times (2 ^ j) x
+  product_rounded inside = rounded_alike (2 ^ k) j room x held (range s a i k ends x inside)
+
   pub product_units : units_within (fin s a (pos i)) (fin false 1 (pos k)) x (rounded_times 1 (mul binary32 x (fin false 1 (pos j)))) ≡ units_within (fin s a (pos i)) (fin false 1 (pos k)) x (rounded_times (2 ^ j) x)
-  product_units = alike_within _ _ x _ _ (λ inside. rounded_alike (2 ^ k) j room x held (range s a i k ends x inside))
+  product_units = alike_within _ _ x _ _ product_rounded

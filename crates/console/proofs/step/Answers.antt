@@ -1,7 +1,6 @@
 -- `console::step` meets its contract: a short buffer is refused, at the end of the input nothing is done, else the block is read and run.
 use mathlib.Core.Path.{ap}
 use native.Mathlib.Omega.{arith}
-use borrow.Author.Rules.{part_to_end}
 use lib.ListN.{length, drop, length-drop}
 use Rattle.lane.specs.Layout.{state_of}
 use Rattle.console.proofs.Printing.{puts_refusal}
@@ -28,14 +27,14 @@ returns-in-Some c =
     let t = drop a.at a.input.now in
     let s = state_of a.l.now in
     rw (step_into_is a.out.now s t (omega arith), at_block s t (λ e. omega (arith, length-drop a.at a.input.now)))
-    (block_ran a.l.now a.input.now a.at a.out.now (omega arith) (rw (part_to_end a.input.now a.at) at c.in-Some.ensures))
+    (block_ran a.l.now a.input.now a.at a.out.now (omega arith) (rw c.at-lines.ensures at c.in-Some.ensures))
 
 pub returns-in-None : goal.returns-in-None
 returns-in-None c =
     let a = c.args in
     let t = drop a.at a.input.now in
     let s = state_of a.l.now in
-    let none = rw (part_to_end a.input.now a.at) at c.in-None.ensures in
+    let none = rw c.at-lines.ensures at c.in-None.ensures in
     let put = puts_refusal 8 (omega arith) (omega (arith, ap length none.2)) (c.put_refusal.ensures.out_after, c.put_refusal.ensures.value) in
     rw (step_into_is a.out.now s t (omega arith), at_block s t (λ e. omega (arith, length-drop a.at a.input.now)))
     (block_refused a.l.now a.input.now a.at a.out.now none.0 none.1 none.2 put)
